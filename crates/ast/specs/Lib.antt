@@ -1,0 +1,12 @@
+pub mod Tree
+pub mod Plain
+pub mod Node
+pub mod Structure
+pub mod File
+pub mod Flat
+pub mod Limits
+pub mod Pieces
+pub mod Sound
+pub mod Complete
+pub mod Entries
+pub mod Reading

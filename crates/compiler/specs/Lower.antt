@@ -1,0 +1,351 @@
+-- The lowering: compiler.rs, stmt.rs and array.rs, rule by rule. A tree is lowered to what the original does in order: it takes registers, pushes
+-- instructions, and may ask for the register before register 0. The next register r and the current label n are handed down; a tree takes
+-- `…Regs` registers and opens `…Labels` labels, wherever it stands. Definitions only.
+use Prim.Native.Nat.{ℕ, zero, suc, _+_, _-_}
+use mathlib.Core.Bool.{Bool, true, false, cond}
+use mathlib.Core.List.{List, [], _∷_, _++_, map}
+use lib.Dec.{leb, eqb}
+use lib.ListN.{length, replicate}
+use Rattle.numeric.specs.Whole.{whole}
+use Rattle.sifv.specs.Value.{Num, Bl, Null, One, Arr, Tab}
+use Rattle.opc.specs.Op.{Lt, Jmpt, Jmpf}
+use Rattle.opc.specs.Op.{Op, Binary, Unary, Ldc, Ldn, Ldas, Ldav, Upda, Stc, Stn, Str, JmpCnd, Jmpa, Incrr, Fn, Call, FnRet, FnStackPush, FnStackPop, Tbli, Nop, Instr, instr, Code}
+use Rattle.tables.specs.Tables.{Program}
+use Rattle.ast.specs.Tree.{Lit, Val, Text, Truth, Expr, Literal, Name, BinaryExpr, UnaryExpr, VarAssign, ArrayMut, FnCall, Rhs, Expression, Table, Array, ArrayAccess}
+use Rattle.ast.specs.Tree.{Exprs, noExprs, moreExprs, Items, noItems, moreItems, Source, OverName, OverCall}
+use Rattle.compiler.specs.Token.{literal, assigned, binKind, unKind}
+use Rattle.ast.specs.Tree.{Stmt, Block, IfStmt, ForStmt, Return, ReturnExpr, ExprStmt, VarDecl, VarInit, FnDecl, Stmts, noStmts, moreStmts, Rest, Else, Elif}
+
+-- ---- what the lowering does
+
+-- the section that is written, `decl_scope`, and how many For nodes stand around what is lowered
+pub data Section : Type 0 where
+  Decl Main : Section
+
+pub record Place : Type 0 where
+  pub section : Section
+  pub loops : ℕ
+
+-- `nextreg`; `push_op`; `self.ri - 1` at 0, in `binarg` and `arraymutexpr`
+pub data Event : Type 0 where
+  Reg : Event
+  Push : Place → Instr → Event
+  Below : Event
+
+-- `self.ri - 1`, where the next register is r, and `prevreg`
+abbrev pub before : ℕ → List Event
+before r = cond (eqb r 0) (Below ∷ []) []
+
+abbrev pub prev : ℕ → ℕ
+prev r = r - 1
+
+-- ---- registers that a tree takes
+
+-- `binarg`: what `expr` takes, but one for True and False, which `expr` leaves out
+abbrev pub argRegs : Expr → ℕ → ℕ
+argRegs (Literal (Val b)) k = k
+argRegs (Literal (Text t)) k = k
+argRegs (Literal (Truth b)) k = 1
+argRegs (Name x) k = k
+argRegs (BinaryExpr t a b) k = k
+argRegs (UnaryExpr t a) k = k
+argRegs (VarAssign x r) k = k
+argRegs (ArrayMut x i v) k = k
+argRegs (FnCall f ps) k = k
+
+-- `assign`: what `expr` takes, but none for a literal or a name
+abbrev pub assignRegs : Expr → ℕ → ℕ
+assignRegs (Literal l) k = 0
+assignRegs (Name x) k = 0
+assignRegs (BinaryExpr t a b) k = k
+assignRegs (UnaryExpr t a) k = k
+assignRegs (VarAssign x r) k = k
+assignRegs (ArrayMut x i v) k = k
+assignRegs (FnCall f ps) k = k
+
+-- a literal in `expr`
+abbrev pub litRegs : Lit → ℕ
+litRegs (Val b) = 1
+litRegs (Text t) = 1
+litRegs (Truth b) = 0
+
+abbrev mutual
+  pub exprRegs : Expr → ℕ
+  exprRegs (Literal l) = litRegs l
+  exprRegs (Name x) = 1
+  exprRegs (BinaryExpr t a b) = argRegs a (exprRegs a) + (argRegs b (exprRegs b) + 1)
+  exprRegs (UnaryExpr t a) = argRegs a (exprRegs a) + 1
+  exprRegs (VarAssign x r) = rhsRegs r
+  exprRegs (ArrayMut x i v) = exprRegs v + exprRegs i
+  exprRegs (FnCall f ps) = paramRegs ps + 1
+
+  pub rhsRegs : Rhs → ℕ
+  rhsRegs (Expression e) = assignRegs e (exprRegs e)
+  rhsRegs (Table is) = itemRegs is
+  rhsRegs (Array a ls) = 0
+  rhsRegs (ArrayAccess a i) = exprRegs i + 1
+
+  pub paramRegs : Exprs → ℕ
+  paramRegs noExprs = 0
+  paramRegs (moreExprs e ps) = exprRegs e + paramRegs ps
+
+  pub itemRegs : Items → ℕ
+  itemRegs noItems = 0
+  itemRegs (moreItems k e is) = exprRegs e + itemRegs is
+
+abbrev pub sourceRegs : Source → ℕ
+sourceRegs (OverName a) = 0
+sourceRegs (OverCall f ps) = paramRegs ps + 1
+
+abbrev mutual
+  pub stmtRegs : Stmt → ℕ
+  stmtRegs (Block b) = stmtsRegs b
+  stmtRegs (IfStmt c b k) = exprRegs c + (stmtsRegs b + restRegs k)
+  stmtRegs (ForStmt i v s b) = sourceRegs s + (stmtsRegs b + 4)
+  stmtRegs Return = 0
+  stmtRegs (ReturnExpr e) = exprRegs e
+  stmtRegs (ExprStmt e) = exprRegs e
+  stmtRegs (VarDecl x) = 0
+  stmtRegs (VarInit x r) = rhsRegs r
+  stmtRegs (FnDecl f ps b) = length ps + stmtsRegs b
+
+  pub stmtsRegs : Stmts → ℕ
+  stmtsRegs noStmts = 0
+  stmtsRegs (moreStmts s k) = stmtRegs s + stmtsRegs k
+
+  pub restRegs : Rest → ℕ
+  restRegs (Else k) = stmtsRegs k
+  restRegs (Elif c b k) = exprRegs c + (stmtsRegs b + restRegs k)
+
+-- ---- labels that a tree opens, `newlbl`
+
+-- the else part with its end: an else opens one more, for the end
+abbrev pub elseLabels : Stmts → ℕ → ℕ
+elseLabels noStmts k = 0
+elseLabels (moreStmts s b) k = k + 1
+
+abbrev mutual
+  pub stmtLabels : Stmt → ℕ
+  stmtLabels (Block b) = stmtsLabels b
+  stmtLabels (IfStmt c b k) = stmtsLabels b + 2 + restLabels k
+  stmtLabels (ForStmt i v s b) = stmtsLabels b + 1
+  stmtLabels Return = 0
+  stmtLabels (ReturnExpr e) = 0
+  stmtLabels (ExprStmt e) = 0
+  stmtLabels (VarDecl x) = 0
+  stmtLabels (VarInit x r) = 0
+  stmtLabels (FnDecl f ps b) = stmtsLabels b + 1
+
+  pub stmtsLabels : Stmts → ℕ
+  stmtsLabels noStmts = 0
+  stmtsLabels (moreStmts s k) = stmtLabels s + stmtsLabels k
+
+  -- after the label that every part behind a Block begins with: an Elif, the else, or the end
+  pub restLabels : Rest → ℕ
+  restLabels (Else k) = elseLabels k (stmtsLabels k)
+  restLabels (Elif c b k) = stmtsLabels b + 2 + restLabels k
+
+-- ---- expressions, right sides: w is where to write, n the label, r the next register
+
+abbrev pub push : Place → ℕ → Op → Event
+push w n o = Push w (instr n o)
+
+-- a value into the next register
+abbrev pub load : Place → ℕ → Op → List Event
+load w n o = Reg ∷ (push w n o ∷ [])
+
+-- a literal in `expr`: True and False give nothing
+abbrev pub lowerLit : Place → ℕ → Lit → ℕ → List Event
+lowerLit w n (Val b) r = load w n (Ldc r (One (literal (Val b))))
+lowerLit w n (Text t) r = load w n (Ldc r (One (literal (Text t))))
+lowerLit w n (Truth b) r = []
+
+-- `binarg`: es is what `expr` gives
+abbrev pub lowerArg : Place → ℕ → Expr → ℕ → List Event → List Event
+lowerArg w n (Literal (Val b)) r es = es
+lowerArg w n (Literal (Text t)) r es = es
+lowerArg w n (Literal (Truth b)) r es = load w n (Ldc r (One (Bl b)))
+lowerArg w n (Name x) r es = es
+lowerArg w n (BinaryExpr t a b) r es = es
+lowerArg w n (UnaryExpr t a) r es = es
+lowerArg w n (VarAssign x k) r es = es
+lowerArg w n (ArrayMut x i v) r es = es
+lowerArg w n (FnCall f ps) r es = es
+
+-- `assign` of an expression to x: es is what `expr` gives, q the next register after it
+abbrev pub lowerAssign : Place → ℕ → ℕ → Expr → List Event → ℕ → List Event
+lowerAssign w n x (Literal l) es q = push w n (Stc (One (assigned l)) x) ∷ []
+lowerAssign w n x (Name y) es q = push w n (Stn y x) ∷ []
+lowerAssign w n x (BinaryExpr t a b) es q = es ++ (push w n (Str (prev q) x) ∷ [])
+lowerAssign w n x (UnaryExpr t a) es q = es ++ (push w n (Str (prev q) x) ∷ [])
+lowerAssign w n x (VarAssign y k) es q = es ++ (push w n (Str (prev q) x) ∷ [])
+lowerAssign w n x (ArrayMut y i v) es q = es ++ (push w n (Str (prev q) x) ∷ [])
+lowerAssign w n x (FnCall f ps) es q = es ++ (push w n (Str (prev q) x) ∷ [])
+
+-- `fncallexpr`: ps are the parameters' events, k their number; q is the next register after them
+abbrev pub lowerCall : Place → ℕ → ℕ → List Event → ℕ → ℕ → List Event
+lowerCall w n f ps k q = ps ++ (push w n (Call f k) ∷ load w n (FnStackPop q))
+
+abbrev pub count : Exprs → ℕ
+count noExprs = 0
+count (moreExprs e ps) = suc (count ps)
+
+abbrev mutual
+  pub lowerExpr : Expr → Place → ℕ → ℕ → List Event
+  lowerExpr (Literal l) w n r = lowerLit w n l r
+  lowerExpr (Name x) w n r = load w n (Ldn r x)
+  lowerExpr (BinaryExpr t a b) w n r =
+      let q = r + argRegs a (exprRegs a) in
+      let p = q + argRegs b (exprRegs b) in
+      lowerArg w n a r (lowerExpr a w n r) ++ (before q ++ (lowerArg w n b q (lowerExpr b w n q) ++ (before p ++
+      load w n (Binary (binKind t) (prev q) (prev p) p))))
+  lowerExpr (UnaryExpr t a) w n r =
+      let q = r + argRegs a (exprRegs a) in
+      lowerArg w n a r (lowerExpr a w n r) ++ (before q ++ load w n (Unary (unKind t) (prev q) q))
+  lowerExpr (VarAssign x k) w n r = lowerRhs k x w n r
+  -- the value first, then the index
+  lowerExpr (ArrayMut x i v) w n r =
+      let q = r + exprRegs v in
+      lowerExpr v w n r ++ (before q ++ (lowerExpr i w n q ++ (push w n (Upda x (prev (q + exprRegs i)) (prev q)) ∷ [])))
+  lowerExpr (FnCall f ps) w n r = lowerCall w n f (lowerParams ps w n r) (count ps) (r + paramRegs ps)
+
+  -- a right side, assigned to x
+  pub lowerRhs : Rhs → ℕ → Place → ℕ → ℕ → List Event
+  lowerRhs (Expression e) x w n r = lowerAssign w n x e (lowerExpr e w n r) (r + exprRegs e)
+  lowerRhs (Table is) x w n r = push w n (Stc (Tab []) x) ∷ lowerItems is x w n r
+  -- under its own name
+  lowerRhs (Array a ls) x w n r = push w n (Stc (Arr (map literal ls)) a) ∷ []
+  -- Ldav and no store
+  lowerRhs (ArrayAccess a i) x w n r = let q = r + exprRegs i in lowerExpr i w n r ++ load w n (Ldav a (prev q) q)
+
+  pub lowerParams : Exprs → Place → ℕ → ℕ → List Event
+  lowerParams noExprs w n r = []
+  lowerParams (moreExprs e ps) w n r =
+      let q = r + exprRegs e in
+      lowerExpr e w n r ++ (push w n (FnStackPush (prev q)) ∷ lowerParams ps w n q)
+
+  -- in file order
+  pub lowerItems : Items → ℕ → Place → ℕ → ℕ → List Event
+  lowerItems noItems x w n r = []
+  lowerItems (moreItems k e is) x w n r =
+      let q = r + exprRegs e in
+      lowerExpr e w n r ++ (push w n (Tbli x k (prev q)) ∷ lowerItems is x w n q)
+
+-- ---- statements
+
+-- `blocks`: an empty list gives a Nop
+abbrev pub orNop : Stmts → Place → ℕ → List Event → List Event
+orNop noStmts w n es = push w n Nop ∷ []
+orNop (moreStmts s k) w n es = es
+
+-- A condition (events c, next register q) before a Block (events b, label m at its end): where it is false the jump goes to the next label after the
+-- Block's, where the Block ends to the label `end`.
+abbrev pub lowerArm : Place → ℕ → List Event → ℕ → List Event → ℕ → ℕ → List Event
+lowerArm w n c q b m end = c ++ (push w n (JmpCnd Jmpf (prev q) (m + 1)) ∷ (b ++ (push w m (Jmpa end) ∷ [])))
+
+-- what a For goes over: its events from register r on, and its name, which for a call is text 0, `fortmp`
+abbrev pub lowerSource : Source → Place → ℕ → ℕ → List Event
+lowerSource (OverName a) w n r = []
+lowerSource (OverCall f ps) w n r =
+    lowerCall w n f (lowerParams ps w n r) (count ps) (r + paramRegs ps) ++ (push w n (Str (prev (r + sourceRegs (OverCall f ps))) 0) ∷ [])
+
+abbrev pub sourceName : Source → ℕ
+sourceName (OverName a) = a
+sourceName (OverCall f ps) = 0
+
+-- one For more around
+abbrev pub inner : Place → Place
+inner w = record { section = w .section; loops = suc (w .loops) }
+
+-- `forstmt`: register r is the index, q the size, q + 1 the item, p the comparison; b are the Block's events, m the label at its end
+abbrev pub lowerFor : Place → ℕ → ℕ → ℕ → ℕ → ℕ → ℕ → ℕ → List Event → List Event → ℕ → List Event
+lowerFor w n i v a r q p s b m =
+    Reg ∷ (s ++ (push w n (Stc (One (Num (whole 0))) i) ∷ (Reg ∷ (push w n (Ldas a q) ∷
+    (push (inner w) (n + 1) (Ldn r i) ∷ (Reg ∷ (push (inner w) (n + 1) (Ldav a r (q + 1)) ∷ (push (inner w) (n + 1) (Str (q + 1) v) ∷ (b ++
+    (push (inner w) m (Incrr r) ∷ (push (inner w) m (Str r i) ∷ (Reg ∷ (push (inner w) m (Binary Lt r q p) ∷
+    (push (inner w) m (JmpCnd Jmpt p (n + 1)) ∷ []))))))))))))))
+
+-- a function's parameters, popped in written order from register r on
+abbrev pub lowerPops : List ℕ → Place → ℕ → ℕ → List Event
+lowerPops [] w n r = []
+lowerPops (x ∷ ps) w n r = push w n (FnStackPop r) ∷ (push w n (Str r x) ∷ lowerPops ps w n (suc r))
+
+-- to the declarations
+abbrev pub declaring : Place → Place
+declaring w = record { section = Decl; loops = w .loops }
+
+abbrev mutual
+  pub lowerStmt : Stmt → Place → ℕ → ℕ → List Event
+  lowerStmt (Block b) w n r = orNop b w n (lowerStmts b w n r)
+  lowerStmt (IfStmt c b k) w n r =
+      let q = r + exprRegs c in
+      let m = n + 1 + stmtsLabels b in
+      let end = m + 1 + restLabels k in
+      lowerArm w n (lowerExpr c w n r) q (orNop b w (n + 1) (lowerStmts b w (n + 1) q)) m end ++ lowerRest k w (m + 1) (q + stmtsRegs b) end
+  lowerStmt (ForStmt i v s b) w n r =
+      let q = suc r + sourceRegs s in
+      lowerFor w n i v (sourceName s) r q (q + 2 + stmtsRegs b) (lowerSource s w n (suc r))
+      (orNop b (inner w) (n + 1) (lowerStmts b (inner w) (n + 1) (q + 2))) (n + 1 + stmtsLabels b)
+  lowerStmt Return w n r = push w n FnRet ∷ []
+  lowerStmt (ReturnExpr e) w n r = lowerExpr e w n r ++ (push w n (FnStackPush (prev (r + exprRegs e))) ∷ (push w n FnRet ∷ []))
+  lowerStmt (ExprStmt e) w n r = lowerExpr e w n r
+  lowerStmt (VarDecl x) w n r = push w n (Stc (One Null) x) ∷ []
+  lowerStmt (VarInit x k) w n r = lowerRhs k x w n r
+  lowerStmt (FnDecl f ps b) w n r =
+      replicate (length ps) Reg ++ (push (declaring w) n (Fn f ps) ∷ (lowerPops ps (declaring w) n r ++
+      orNop b (declaring w) n (lowerStmts b (declaring w) n (r + length ps))))
+
+  pub lowerStmts : Stmts → Place → ℕ → ℕ → List Event
+  lowerStmts noStmts w n r = []
+  lowerStmts (moreStmts s k) w n r = lowerStmt s w n r ++ lowerStmts k w (n + stmtLabels s) (r + stmtRegs s)
+
+  -- from label n on; the label `end` is the last, where a Nop stands
+  pub lowerRest : Rest → Place → ℕ → ℕ → ℕ → List Event
+  lowerRest (Else k) w n r end = lowerStmts k w n r ++ (push w end Nop ∷ [])
+  lowerRest (Elif c b k) w n r end =
+      let q = r + exprRegs c in
+      let m = n + 1 + stmtsLabels b in
+      lowerArm w n (lowerExpr c w n r) q (orNop b w (n + 1) (lowerStmts b w (n + 1) q)) m end ++ lowerRest k w (m + 1) (q + stmtsRegs b) end
+
+-- ---- the whole: `compile`
+
+abbrev pub top : Place
+top = record { section = Main; loops = 0 }
+
+abbrev pub lowerTree : Stmts → List Event
+lowerTree t = orNop t top 0 (lowerStmts t top 0 0)
+
+-- the first refusal, from r registers taken and k instructions pushed: "6 or 7, the earlier in emission"
+abbrev pub refusal : List Event → ℕ → ℕ → ℕ
+refusal [] r k = 0
+refusal (Reg ∷ es) r k = cond (leb 96 r) 7 (refusal es (suc r) k)
+refusal (Push w i ∷ es) r k = cond (leb 1024 k) 7 (refusal es r (suc k))
+refusal (Below ∷ es) r k = 6
+
+-- the instructions of a section, in the order of pushing
+abbrev pub only : Section → Section → Instr → Code → Code
+only Decl Decl i c = i ∷ c
+only Decl Main i c = c
+only Main Decl i c = c
+only Main Main i c = i ∷ c
+
+abbrev pub pushed : Section → List Event → Code
+pushed s [] = []
+pushed s (Reg ∷ es) = pushed s es
+pushed s (Push w i ∷ es) = only s (w .section) i (pushed s es)
+pushed s (Below ∷ es) = pushed s es
+
+-- declarations, then code
+abbrev pub programOf : List Event → Program
+programOf es = record { code = pushed Decl es ++ pushed Main es; codeStart = length (pushed Decl es) }
+
+pub data Lowered : Type 0 where
+  refused : ℕ → Lowered
+  lowered : Program → Lowered
+
+abbrev pub decide : ℕ → Program → Lowered
+decide zero p = lowered p
+decide (suc k) p = refused (suc k)
+
+abbrev pub lower : Stmts → Lowered
+lower t = decide (refusal (lowerTree t) 0 0) (programOf (lowerTree t))

@@ -1,0 +1,177 @@
+// Bytes of lent buffers: big-endian numbers in them, copies, fills and comparisons.
+ghost use mathlib.Core.Path.{_≡_};
+ghost use Prim.Native.Nat.{_+_, _%_, _≤_, _<_};
+ghost use lib.ListN.{length, replicate};
+ghost use Rattle.lent.specs.Bytes.{beValue, beBytes, part, splice, sameBytes};
+
+pub fn wide(x: u8) -> u64
+    ensures { λ r. ⌜ (r ≡ x) × (r < 256) ⌝ }
+{
+    x as u64
+}
+
+pub fn low(x: u64) -> u8
+    ensures { λ r. ⌜ r ≡ x % 256 ⌝ }
+{
+    (x % 256) as u8
+}
+
+// The number in the bytes from at on: one, two, four, eight of them.
+pub fn get_u8(s: &[u8], at: usize) -> u64
+    requires { ⌜ at + 1 ≤ length (now s) ⌝ }
+    ensures { λ r. ⌜ (r ≡ beValue (part (now (s .entry)) at 1)) × (r < 256) ⌝ }
+{
+    wide(s[at])
+}
+
+pub fn get_u16(s: &[u8], at: usize) -> u64
+    requires { ⌜ at + 2 ≤ length (now s) ⌝ }
+    ensures { λ r. ⌜ (r ≡ beValue (part (now (s .entry)) at 2)) × (r < 65536) ⌝ }
+{
+    get_u8(s, at) * 256 + get_u8(s, at + 1)
+}
+
+pub fn get_u32(s: &[u8], at: usize) -> u64
+    requires { ⌜ at + 4 ≤ length (now s) ⌝ }
+    ensures { λ r. ⌜ (r ≡ beValue (part (now (s .entry)) at 4)) × (r < 4294967296) ⌝ }
+{
+    let a = get_u16(s, at) * 256 + get_u8(s, at + 2);
+    a * 256 + get_u8(s, at + 3)
+}
+
+pub fn get_u64(s: &[u8], at: usize) -> u64
+    requires { ⌜ at + 8 ≤ length (now s) ⌝ }
+    ensures { λ r. ⌜ r ≡ beValue (part (now (s .entry)) at 8) ⌝ }
+{
+    let a = get_u32(s, at) * 256 + get_u8(s, at + 4);
+    let b = a * 256 + get_u8(s, at + 5);
+    let c = b * 256 + get_u8(s, at + 6);
+    c * 256 + get_u8(s, at + 7)
+}
+
+// The low bytes of v, written from at on: one, two, four, eight of them.
+pub fn put_u8(d: &mut [u8], at: usize, v: u64)
+    requires { ⌜ at + 1 ≤ length (now d) ⌝ }
+    ensures { λ _. ⌜ now (d .exit) ≡ splice (now (d .entry)) at (beBytes 1 v) ⌝ }
+{
+    d[at] = low(v);
+}
+
+pub fn put_u16(d: &mut [u8], at: usize, v: u64)
+    requires { ⌜ at + 2 ≤ length (now d) ⌝ }
+    ensures { λ _. ⌜ now (d .exit) ≡ splice (now (d .entry)) at (beBytes 2 v) ⌝ }
+{
+    put_u8(d, at, v / 256);
+    put_u8(d, at + 1, v);
+}
+
+pub fn put_u32(d: &mut [u8], at: usize, v: u64)
+    requires { ⌜ at + 4 ≤ length (now d) ⌝ }
+    ensures { λ _. ⌜ now (d .exit) ≡ splice (now (d .entry)) at (beBytes 4 v) ⌝ }
+{
+    put_u16(d, at, v / 65536);
+    put_u16(d, at + 2, v);
+}
+
+pub fn put_u64(d: &mut [u8], at: usize, v: u64)
+    requires { ⌜ at + 8 ≤ length (now d) ⌝ }
+    ensures { λ _. ⌜ now (d .exit) ≡ splice (now (d .entry)) at (beBytes 8 v) ⌝ }
+{
+    put_u32(d, at, v / 4294967296);
+    put_u32(d, at + 4, v);
+}
+
+// All of s, written from at on.
+pub fn copy(d: &mut [u8], at: usize, s: &[u8])
+    requires { ⌜ at + length (now s) ≤ length (now d) ⌝ }
+    ensures { λ _. ⌜ now (d .exit) ≡ splice (now (d .entry)) at (now (s .entry)) ⌝ }
+{
+    let mut i = 0;
+    while i < s.len() {
+        d[at + i] = s[i];
+        i += 1;
+    }
+}
+
+// The n bytes from `from` on, written from `to` on, where `to` is not behind `from`: upwards.
+fn copy_up(d: &mut [u8], from: usize, to: usize, n: usize)
+    requires { ⌜ (from + n ≤ length (now d)) × (to ≤ from) ⌝ }
+    ensures { λ _. ⌜ now (d .exit) ≡ splice (now (d .entry)) to (part (now (d .entry)) from n) ⌝ }
+{
+    let mut i = 0;
+    while i < n {
+        d[to + i] = d[from + i];
+        i += 1;
+    }
+}
+
+// The same where `to` is not before `from`: downwards.
+fn copy_down(d: &mut [u8], from: usize, to: usize, n: usize)
+    requires { ⌜ (to + n ≤ length (now d)) × (from ≤ to) ⌝ }
+    ensures { λ _. ⌜ now (d .exit) ≡ splice (now (d .entry)) to (part (now (d .entry)) from n) ⌝ }
+{
+    let mut i = n;
+    while 0 < i {
+        i -= 1;
+        d[to + i] = d[from + i];
+    }
+}
+
+// The n bytes from `from` on, written from `to` on; the two may meet.
+pub fn copy_within(d: &mut [u8], from: usize, to: usize, n: usize)
+    requires { ⌜ (from + n ≤ length (now d)) × (to + n ≤ length (now d)) ⌝ }
+    ensures { λ _. ⌜ now (d .exit) ≡ splice (now (d .entry)) to (part (now (d .entry)) from n) ⌝ }
+{
+    if to < from {
+        copy_up(d, from, to, n);
+        return;
+    }
+    if from < to {
+        copy_down(d, from, to, n);
+        return;
+    }
+}
+
+// The n bytes from at on become 0.
+pub fn zero(d: &mut [u8], at: usize, n: usize)
+    requires { ⌜ at + n ≤ length (now d) ⌝ }
+    ensures { λ _. ⌜ now (d .exit) ≡ splice (now (d .entry)) at (replicate n 0) ⌝ }
+{
+    let mut i = 0;
+    while i < n {
+        d[at + i] = 0;
+        i += 1;
+    }
+}
+
+// Whether the n bytes of a from at on are those of b from bt on. All are compared.
+pub fn same(a: &[u8], at: usize, b: &[u8], bt: usize, n: usize) -> bool
+    requires { ⌜ (at + n ≤ length (now a)) × (bt + n ≤ length (now b)) ⌝ }
+    ensures { λ r. ⌜ r ≡ sameBytes (part (now (a .entry)) at n) (part (now (b .entry)) bt n) ⌝ }
+{
+    let mut ok = true;
+    let mut i = 0;
+    while i < n {
+        if a[at + i] != b[bt + i] {
+            ok = false;
+        }
+        i += 1;
+    }
+    ok
+}
+
+// Whether the n bytes from at on are 0. All are looked at.
+pub fn all_zero(s: &[u8], at: usize, n: usize) -> bool
+    requires { ⌜ at + n ≤ length (now s) ⌝ }
+    ensures { λ r. ⌜ r ≡ sameBytes (part (now (s .entry)) at n) (replicate n 0) ⌝ }
+{
+    let mut ok = true;
+    let mut i = 0;
+    while i < n {
+        if s[at + i] != 0 {
+            ok = false;
+        }
+        i += 1;
+    }
+    ok
+}

@@ -1,0 +1,137 @@
+// Numbers: an index from a number, the bit pattern of a number and back, and the remainder.
+ghost use mathlib.Core.Path.{_≡_};
+ghost use Prim.Native.Nat.{_*_, _%_, _^_, _≤_, _<_};
+ghost use lib.Ieee as Ieee;
+ghost use lib.Ieee.{binary64};
+ghost use Rattle.numeric.specs.Index.{indexOf};
+ghost use Rattle.numeric.specs.Patterns.{bitsOf};
+ghost use Rattle.numeric.specs.Fields.{infinity, significand, exponent, units};
+ghost use Rattle.numeric.specs.Remainder as Rule;
+
+// The weights of a pattern's leading digit and of its sign, and the pattern of an infinity.
+const LEADING: u64 = 0x10_0000_0000_0000;
+
+const SIGN: u64 = 0x8000_0000_0000_0000;
+
+const INFINITY: u64 = 0x7ff0_0000_0000_0000;
+
+// The index from a number: a NaN and a negative number give 0, a fraction is cut, and 2^64 and
+// above give 2^64 - 1.
+pub fn index_of(x: f64) -> u64
+    ensures { λ r. ⌜ r ≡ indexOf x ⌝ }
+{
+    if x > -1.0 {
+        if x < 18446744073709551616.0 {
+            return std::num::truncating_f64_to_u64(x);
+        }
+        return 18446744073709551615;
+    }
+    0
+}
+
+// The bit pattern of a number, with one pattern for every NaN. The second fact is for callers: it
+// follows from the first only for an x that fits its format, which a caller need not show.
+pub fn bits_of(x: f64) -> u64
+    ensures { λ r. ⌜ (r ≡ bitsOf x) × (Ieee.ofBits binary64 r ≡ x) ⌝ }
+{
+    if x != x {
+        return 0x7ff8_0000_0000_0000;
+    }
+    f64::to_bits(x)
+}
+
+// The number of a bit pattern; every NaN's pattern gives the NaN.
+pub fn from_bits(n: u64) -> f64
+    ensures { λ r. ⌜ r ≡ Ieee.ofBits binary64 n ⌝ }
+{
+    if n % SIGN > INFINITY {
+        return 0.0 / 0.0;
+    }
+    f64::from_bits(n)
+}
+
+// The significand of a finite number's pattern without its sign.
+fn significand_of(p: u64) -> u64
+    ensures { λ r. ⌜ r ≡ significand p ⌝ }
+{
+    if p < LEADING {
+        return p;
+    }
+    LEADING + p % LEADING
+}
+
+// Its exponent.
+fn exponent_of(p: u64) -> u64
+    ensures { λ r. ⌜ r ≡ exponent p ⌝ }
+{
+    if p < LEADING {
+        return 0;
+    }
+    p / LEADING - 1
+}
+
+// The remainder of m * 2^s by n, 11 digits of s a turn.
+fn reduced(m: u64, n: u64, s: u64) -> u64
+    requires { ⌜ (m < 2 ^ 53) × (0 < n) × (n < 2 ^ 53) ⌝ }
+    ensures { λ r. ⌜ r ≡ m * 2 ^ s % n ⌝ }
+{
+    let mut r = m;
+    let mut left = s;
+    while left > 11 {
+        r = r * 2048 % n;
+        left -= 11;
+    }
+    (r << left) % n
+}
+
+// The pattern of q * 2^k smallest numbers. The digits of q are moved up to where a significand
+// starts, as far as the exponent allows.
+fn pattern_of(q: u64, k: u64) -> u64
+    requires { ⌜ (q < 2 ^ 53) × (k ≤ 2045) ⌝ }
+    ensures { λ r. ⌜ (units r ≡ q * 2 ^ k) × (r < infinity) ⌝ }
+{
+    if q == 0 {
+        return 0;
+    }
+    let z = u64::leading_zeros(q) as u64 - 11;
+    if z <= k {
+        return (k - z) * LEADING + (q << z);
+    }
+    q << k
+}
+
+// The pattern of the remainder of two positive finite numbers' patterns.
+fn rest_of(p: u64, q: u64) -> u64
+    requires { ⌜ (0 < q) × (q ≤ p) × (p < infinity) ⌝ }
+    ensures { λ r. ⌜ (units r ≡ units p % units q) × (r < infinity) ⌝ }
+{
+    let k = exponent_of(q);
+    let s = exponent_of(p) - k;
+    let r = reduced(significand_of(p), significand_of(q), s);
+    pattern_of(r, k)
+}
+
+// The remainder of a division cut toward zero, exactly.
+pub fn modu(a: f64, b: f64) -> f64
+    ensures { λ r. ⌜ (r ≡ Rule.modu a b) × Rule.Remainder a b r ⌝ }
+{
+    let x = bits_of(a);
+    let y = bits_of(b);
+    let p = x % SIGN;
+    let q = y % SIGN;
+    // a NaN or an infinity as the dividend, a NaN or a zero as the divisor
+    if p >= INFINITY {
+        return 0.0 / 0.0;
+    }
+    if q > INFINITY {
+        return 0.0 / 0.0;
+    }
+    if q == 0 {
+        return 0.0 / 0.0;
+    }
+    // a smaller dividend, also by an infinity
+    if p < q {
+        return a;
+    }
+    from_bits(x - p + rest_of(p, q))
+}

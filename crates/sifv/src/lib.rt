@@ -1,0 +1,2 @@
+// The bytes of a value slot (docs/FORMATS.md).
+pub const SLOT: usize = 256;

@@ -1,0 +1,4 @@
+pub mod RuntimeErr
+pub mod Operation
+pub mod Machine
+pub mod StateBytes

@@ -1,0 +1,84 @@
+//! Generated files, by kind and seed.
+
+use std::fs;
+use std::io::Write;
+
+use crate::gen_script::{other, plain};
+use crate::rng::Rng;
+use crate::tree::file_of;
+use crate::{gen_damaged, gen_limits, gen_other, gen_programs, gen_values};
+
+/// So many items of a kind: tree files, or program texts with their `steps` line. The directed
+/// list of the kind comes first, then items by the seed.
+pub fn items(kind: &str, seed: u64, count: usize) -> Result<Vec<Vec<u8>>, String> {
+    let mut out = directed(kind, seed)?;
+    out.truncate(count);
+    let more = count - out.len();
+    out.extend(by_seed(kind, seed, more));
+    Ok(out)
+}
+
+/// The directed list of a kind.
+pub fn directed(kind: &str, seed: u64) -> Result<Vec<Vec<u8>>, String> {
+    Ok(match kind {
+        "plain" => Vec::new(),
+        "values" => gen_values::all().iter().map(file_of).collect(),
+        "other" => gen_other::all().iter().map(file_of).collect(),
+        "limits" => gen_limits::all(),
+        "damaged" => damaged_list(seed).into_iter().map(|(file, _)| file).collect(),
+        "programs" => gen_programs::all().into_iter().map(String::into_bytes).collect(),
+        _ => return Err(format!("unknown kind {kind}")),
+    })
+}
+
+/// So many items of a kind by the seed.
+pub fn by_seed(kind: &str, seed: u64, count: usize) -> Vec<Vec<u8>> {
+    (0..count as u64).map(|item| seeded(kind, &mut Rng::new(seed, item))).collect()
+}
+
+/// Damaged files with the number that each has to get.
+pub fn damaged_list(seed: u64) -> Vec<(Vec<u8>, u8)> {
+    let mut out = gen_damaged::all(10, seed);
+    out.extend(gen_damaged::wrong_counts());
+    out.extend(gen_damaged::wrong_numbers());
+    out
+}
+
+fn seeded(kind: &str, rng: &mut Rng) -> Vec<u8> {
+    match kind {
+        "other" => file_of(&other(rng)),
+        "limits" => limit_beside(rng),
+        "damaged" => gen_damaged::scratched(rng),
+        "programs" => gen_programs::random(rng).into_bytes(),
+        "values" => file_of(&gen_values::numbers(rng)),
+        _ => file_of(&plain(rng)),
+    }
+}
+
+/// A file of the list of limits, with one of its first bytes changed.
+fn limit_beside(rng: &mut Rng) -> Vec<u8> {
+    let list = gen_limits::all();
+    let mut file = list[rng.below(list.len())].clone();
+    let at = rng.below(file.len().min(80));
+    file[at] = file[at].wrapping_add(1);
+    file
+}
+
+/// Writes the items into a folder, or to standard output, each behind its length in 4 bytes.
+pub fn generate(seed: u64, count: usize, kind: &str, target: &str) -> Result<(), String> {
+    for (number, bytes) in items(kind, seed, count)?.iter().enumerate() {
+        write_item(bytes, target, kind, seed, number).map_err(|e| e.to_string())?;
+    }
+    Ok(())
+}
+
+fn write_item(bytes: &[u8], to: &str, kind: &str, seed: u64, item: usize) -> std::io::Result<()> {
+    if to == "--pack" {
+        let mut out = std::io::stdout().lock();
+        out.write_all(&(bytes.len() as u32).to_be_bytes())?;
+        return out.write_all(bytes);
+    }
+    fs::create_dir_all(to)?;
+    let ending = if kind == "programs" { "program" } else { "tree" };
+    fs::write(format!("{to}/{kind}-{seed}-{item:05}.{ending}"), bytes)
+}

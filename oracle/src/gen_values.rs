@@ -1,0 +1,173 @@
+//! Every operator on every kind of value, every place that reads a value, and numbers of all
+//! sorts in arithmetic.
+
+use crate::gen_script::NUMBERS;
+use crate::rng::Rng;
+use crate::tree::*;
+
+/// The kinds of value: number, text, yes or no, nothing, array, table, unset.
+const KINDS: [u8; 7] = [1, 2, 3, 4, 5, 6, 7];
+
+/// The statement that stores a value of the kind under the kind's number as a name.
+fn stored(kind: u8) -> Option<Node> {
+    match kind {
+        1 => Some(set(1, num(1.0))),
+        2 => Some(set(2, text(0))),
+        3 => Some(set(3, binary(8, num(1.0), num(2.0)))),
+        4 => Some(decl(4, None)),
+        5 => Some(set_array(5, vec![num(1.0), yes()])),
+        6 => Some(set(6, table(vec![(1, num(1.0))]))),
+        _ => None,
+    }
+}
+
+fn with(kinds: &[u8], last: Vec<Node>) -> Node {
+    let mut used = kinds.to_vec();
+    used.sort_unstable();
+    used.dedup();
+    let mut kids: Vec<Node> = used.into_iter().filter_map(stored).collect();
+    kids.extend(last);
+    program(kids)
+}
+
+/// An operand of the kind; the kinds above 3 need a stored value.
+fn operand(kind: u8) -> Node {
+    match kind {
+        1 => num(1.0),
+        2 => text(0),
+        3 => yes(),
+        _ => name(kind - 3),
+    }
+}
+
+/// The stores for operands of the kinds, under the names 1 to 4, and a last statement.
+fn with_operands(kinds: &[u8], last: Node) -> Node {
+    let store = |kind: u8| match kind {
+        4 => Some(decl(1, None)),
+        5 => Some(set_array(2, vec![])),
+        6 => Some(set(3, table(vec![]))),
+        _ => None,
+    };
+    let mut used = kinds.to_vec();
+    used.sort_unstable();
+    used.dedup();
+    let mut kids: Vec<Node> = used.into_iter().filter_map(store).collect();
+    kids.push(last);
+    program(kids)
+}
+
+/// Plain scripts, in a fixed order.
+pub fn all() -> Vec<Node> {
+    let mut out = Vec::new();
+    for op in 1..=13 {
+        for left in KINDS {
+            for right in KINDS {
+                let last = set(1, binary(op, operand(left), operand(right)));
+                out.push(with_operands(&[left, right], last));
+            }
+        }
+    }
+    for a in KINDS {
+        out.push(with_operands(&[a], set(1, unary(1, operand(a)))));
+        out.push(with_operands(&[a], set(1, unary(2, operand(a)))));
+        out.push(with(&[a], vec![set(8, name(a)), set(9, name(8))]));
+        out.push(with(&[a], vec![stmt(name(a))]));
+        out.push(with(&[a], vec![set(8, table(vec![(1, name(a)), (0, num(2.0))]))]));
+        out.push(with(&[a], vec![if_(name(a), block(vec![]), vec![], vec![decl(8, None)])]));
+        out.push(with(&[a], vec![for_(8, 9, name(a), block(vec![]))]));
+        out.push(with(&[a], vec![for_(a, 9, name(5), block(vec![set(8, name(a))]))]));
+        out.push(with(&[a, 5], vec![for_(9, a, name(5), block(vec![set(8, name(a))]))]));
+        for b in KINDS {
+            out.push(with(&[a, b], vec![set(8, access(a, name(b)))]));
+            out.push(with(&[a, b], vec![stmt(mutate(a, name(b), num(0.0)))]));
+            out.push(with(&[a, b, 5], vec![stmt(mutate(a, name(b), name(5)))]));
+        }
+        out.push(with(&[a, 5], vec![stmt(mutate(5, num(0.0), name(a)))]));
+        out.push(with(&[a, 5], vec![stmt(mutate(5, num(2.0), name(a)))]));
+    }
+    out.extend(indexes());
+    out.extend(loops());
+    out.extend(special_numbers());
+    out
+}
+
+/// Each special number as an index into arrays of 0, 1 and 4 items.
+fn indexes() -> Vec<Node> {
+    let mut out = Vec::new();
+    for length in [0, 1, 4] {
+        for number in NUMBERS {
+            let array = || set_array(1, vec![num(5.0); length]);
+            out.push(program(vec![array(), stmt(mutate(1, bits(number), text(0)))]));
+            out.push(program(vec![array(), set(2, access(1, bits(number))), decl(3, None)]));
+        }
+    }
+    out
+}
+
+/// Clashes of names, arrays changed by the body, indexes assigned by the body.
+fn loops() -> Vec<Node> {
+    let items = || set_array(1, vec![num(1.0), num(2.0), num(3.0)]);
+    let over = |index: u8, item: u8, body: Vec<Node>| {
+        program(vec![items(), for_(index, item, name(1), block(body))])
+    };
+    let longer = || set_array(1, vec![num(7.0); 5]);
+    let shorter = || set_array(1, vec![num(7.0)]);
+    let note = |from: u8| set(4, name(from));
+    vec![
+        over(2, 3, vec![note(2)]),
+        over(2, 2, vec![note(2)]),
+        over(1, 2, vec![]),
+        over(2, 1, vec![]),
+        over(1, 1, vec![]),
+        over(2, 3, vec![longer()]),
+        over(2, 3, vec![shorter()]),
+        over(2, 3, vec![set(1, num(1.0))]),
+        over(2, 3, vec![set(2, num(9.0)), note(2)]),
+        over(2, 3, vec![set(2, text(0))]),
+        over(2, 3, vec![set(3, text(0))]),
+        over(2, 3, vec![stmt(mutate(1, name(2), binary(3, name(3), num(2.0))))]),
+        over(2, 3, vec![stmt(mutate(1, binary(1, name(2), num(1.0)), num(0.5)))]),
+        over(2, 3, vec![for_(2, 3, name(1), block(vec![note(3)]))]),
+        over(2, 3, vec![for_(4, 5, name(1), block(vec![shorter()]))]),
+        program(vec![for_(2, 3, name(1), block(vec![]))]),
+        program(vec![set_array(1, vec![]), for_(2, 3, name(1), block(vec![]))]),
+        program(vec![set_array(0, vec![num(4.0)]), for_(0, 3, name(0), block(vec![]))]),
+        program(vec![set(2, array(1, vec![num(4.0)])), for_(2, 3, name(1), block(vec![note(2)]))]),
+    ]
+}
+
+/// Every operator for numbers on every two of a few special ones, and minus on all of them.
+fn special_numbers() -> Vec<Node> {
+    let few = [0.0, -0.0, 1.5, f64::NAN, f64::INFINITY, f64::NEG_INFINITY];
+    let mut results: Vec<Node> = NUMBERS.iter().map(|n| unary(2, bits(*n))).collect();
+    for op in 1..=10 {
+        for left in few {
+            results.extend(few.map(|right| binary(op, num(left), num(right))));
+        }
+    }
+    let script = |chunk: &[Node]| {
+        let set = |(at, result): (usize, &Node)| set(1 + at as u8, result.clone());
+        program(chunk.iter().enumerate().map(set).collect())
+    };
+    results.chunks(32).map(script).collect()
+}
+
+/// A script of results of arithmetic and comparison on numbers of all sorts.
+pub fn numbers(rng: &mut Rng) -> Node {
+    let mut kids = Vec::new();
+    for name in 1..=16 {
+        let (left, right) = (number(rng), number(rng));
+        kids.push(set(name, binary(rng.pick(&[1, 2, 3, 4, 5, 5, 6, 7, 8, 9, 10]), left, right)));
+    }
+    program(kids)
+}
+
+fn number(rng: &mut Rng) -> Node {
+    match rng.below(6) {
+        0 => num(rng.below(2000) as f64 / 16.0 - 60.0),
+        1 => bits(rng.next()),
+        2 => bits(0x3ff0_0000_0000_0000 + (rng.next() >> 12)),
+        3 => bits((rng.next() >> 12) + ((1000 + rng.below(60) as u64) << 52)),
+        _ => bits(rng.pick(&NUMBERS)),
+    }
+}

@@ -1,0 +1,25 @@
+//! The part of the program that answers stored cases again, as a program of its own: the one
+//! that `mutants` builds with each change.
+
+mod bound;
+mod build_tree;
+mod driver;
+mod listing;
+mod lower;
+mod names;
+mod original;
+mod program;
+mod reader;
+mod records;
+mod refuse;
+mod tree;
+mod value_text;
+
+fn main() {
+    refuse::quiet_refusals();
+    let folder = std::env::args().nth(1).expect("the folder of the stored answers");
+    if let Err(why) = records::replay(&folder) {
+        eprintln!("{why}");
+        std::process::exit(1);
+    }
+}

@@ -1,0 +1,366 @@
+//! The walk of document 01: a plain script's meaning from its tree alone.
+//!
+//! Nothing here lowers the tree or steps the machine. Every step of the machine has its place as
+//! one `step` of the walk, so that the walk can be cut off after any number of steps.
+
+use std::collections::BTreeMap;
+
+use crate::driver::Stop;
+use crate::tree::kind::*;
+use crate::tree::Node;
+use crate::value_text::number_text;
+
+#[derive(Clone, Debug)]
+pub enum Value {
+    Num(f64),
+    Text(u8),
+    Truth(bool),
+    Null,
+    Array(Vec<Value>),
+    Table(BTreeMap<u8, Value>),
+}
+
+impl Value {
+    fn is_single(&self) -> bool {
+        !matches!(self, Value::Array(_) | Value::Table(_))
+    }
+
+    pub fn text(&self) -> String {
+        match self {
+            Value::Num(n) => number_text(*n),
+            Value::Text(t) => format!("Str:{t}"),
+            Value::Truth(b) => format!("Bl:{}", u8::from(*b)),
+            Value::Null => String::from("Null"),
+            Value::Array(items) => {
+                let items: Vec<String> = items.iter().map(Value::text).collect();
+                format!("Arr:[{}]", items.join(","))
+            }
+            Value::Table(map) => {
+                let item = |(key, value): (&u8, &Value)| format!("{key}={}", value.text());
+                let items: Vec<String> = map.iter().map(item).collect();
+                format!("Tab:[{}]", items.join(","))
+            }
+        }
+    }
+}
+
+/// Why a walk ended before the script's end.
+#[derive(Clone, Debug, PartialEq)]
+pub enum Cut {
+    Stopped(Stop),
+    Spent,
+}
+
+type Steps<T> = Result<T, Cut>;
+
+pub struct Walk {
+    values: BTreeMap<u8, Value>,
+    pub count: u64,
+    budget: u64,
+}
+
+/// Walks a plain script for at most `budget` steps.
+pub fn walk(root: &Node, budget: u64) -> (Walk, Option<Cut>) {
+    let mut walk = Walk { values: BTreeMap::new(), count: 0, budget };
+    let end = walk.statements(&root.kids);
+    (walk, end.err())
+}
+
+impl Walk {
+    /// The `held` and `name` lines.
+    pub fn names_text(&self) -> String {
+        let names = self.values.iter().map(|(text, v)| format!("name {text} {}\n", v.text()));
+        format!("held {}\n{}", self.values.len(), names.collect::<String>())
+    }
+
+    /// One step; a stopping one is not counted.
+    fn step<T>(&mut self, result: impl FnOnce(&mut Walk) -> Result<T, Stop>) -> Steps<T> {
+        if self.count == self.budget {
+            return Err(Cut::Spent);
+        }
+        let value = result(self).map_err(Cut::Stopped)?;
+        self.count += 1;
+        Ok(value)
+    }
+
+    /// A step that only passes on.
+    fn pass(&mut self) -> Steps<()> {
+        self.step(|_| Ok(()))
+    }
+
+    fn store(&mut self, name: u8, value: Value) -> Steps<()> {
+        self.step(|walk| {
+            walk.values.insert(name, value);
+            Ok(())
+        })
+    }
+
+    fn read(&self, name: u8) -> Result<&Value, Stop> {
+        self.values.get(&name).ok_or_else(|| Stop::new(20, &[u64::from(name)]))
+    }
+
+    fn array(&self, name: u8) -> Result<&Vec<Value>, Stop> {
+        match self.read(name)? {
+            Value::Array(items) => Ok(items),
+            _ => Err(Stop::new(28, &[u64::from(name)])),
+        }
+    }
+
+    /// The array's item at an index, or 31 with name, index and length.
+    fn item(&self, name: u8, index: u64) -> Result<&Value, Stop> {
+        let items = self.array(name)?;
+        let place = usize::try_from(index).ok();
+        let details = [u64::from(name), index, items.len() as u64];
+        place.and_then(|p| items.get(p)).ok_or_else(|| Stop::new(31, &details))
+    }
+
+    /// An empty list of statements takes one step of its own.
+    fn statements(&mut self, statements: &[Node]) -> Steps<()> {
+        if statements.is_empty() {
+            return self.pass();
+        }
+        statements.iter().try_for_each(|statement| self.statement(statement))
+    }
+
+    fn statement(&mut self, node: &Node) -> Steps<()> {
+        match node.kind {
+            BLOCK => self.statements(&node.kids),
+            IF => self.branches(node),
+            FOR => self.passes(node),
+            EXPR_STMT => self.expression_statement(&node.kids[0]),
+            VAR_DECL => match node.kids.first() {
+                None => self.store(node.text(), Value::Null),
+                Some(right) => self.right_side(node.text(), right),
+            },
+            other => panic!("kind {other} is no statement of a plain script"),
+        }
+    }
+
+    fn expression_statement(&mut self, node: &Node) -> Steps<()> {
+        match node.kind {
+            ASSIGN => self.right_side(node.text(), &node.kids[0]),
+            MUTATE => self.set_item(node),
+            _ => self.expression(node).map(|_| ()),
+        }
+    }
+
+    /// Stores a right side under a name, each in its own way.
+    fn right_side(&mut self, name: u8, right: &Node) -> Steps<()> {
+        match right.kind {
+            NUM => self.store(name, Value::Num(right.number())),
+            TEXT => self.store(name, Value::Text(right.text())),
+            TRUE | FALSE => self.store(name, Value::Truth(false)),
+            NAME => {
+                let value = self.values.get(&right.text()).cloned().unwrap_or(Value::Null);
+                self.store(name, value)
+            }
+            TABLE => self.table(name, right),
+            ARRAY => {
+                let items = right.kids.iter().map(literal).collect();
+                self.store(right.text(), Value::Array(items))
+            }
+            ACCESS => self.access(right),
+            _ => {
+                let value = self.expression(right)?;
+                self.store(name, value)
+            }
+        }
+    }
+
+    fn table(&mut self, name: u8, right: &Node) -> Steps<()> {
+        self.store(name, Value::Table(BTreeMap::new()))?;
+        for item in &right.kids {
+            let value = self.expression(&item.kids[0])?;
+            self.step(|walk| walk.insert(name, item.text(), value))?;
+        }
+        Ok(())
+    }
+
+    fn insert(&mut self, name: u8, key: u8, value: Value) -> Result<(), Stop> {
+        if !value.is_single() {
+            return Err(Stop::bare(34));
+        }
+        match self.values.get_mut(&name) {
+            Some(Value::Table(map)) => map.insert(key, value),
+            _ => panic!("the table was stored just before"),
+        };
+        Ok(())
+    }
+
+    /// Reads an item and keeps it nowhere.
+    fn access(&mut self, node: &Node) -> Steps<()> {
+        let index = self.expression(&node.kids[0])?;
+        self.step(|walk| walk.item(node.text(), index_of(&index)?).map(|_| ()))
+    }
+
+    /// The value first, then the index, then the array is changed.
+    fn set_item(&mut self, node: &Node) -> Steps<()> {
+        let value = self.expression(&node.kids[1])?;
+        let index = self.expression(&node.kids[0])?;
+        self.step(|walk| {
+            let index = index_of(&index)?;
+            walk.item(node.text(), index)?;
+            if !value.is_single() {
+                return Err(Stop::bare(34));
+            }
+            if let Some(Value::Array(items)) = walk.values.get_mut(&node.text()) {
+                items[index as usize] = value;
+            }
+            Ok(())
+        })
+    }
+
+    /// One step decides a condition; a branch taken has a step out and all meet in one step.
+    fn branches(&mut self, node: &Node) -> Steps<()> {
+        if self.condition(&node.kids[0])? {
+            self.branch(&node.kids[1])?;
+            return self.pass();
+        }
+        for elif in node.elifs() {
+            if self.condition(&elif.kids[0])? {
+                self.branch(&elif.kids[1])?;
+                return self.pass();
+            }
+        }
+        node.else_statements().iter().try_for_each(|statement| self.statement(statement))?;
+        self.pass()
+    }
+
+    fn branch(&mut self, block: &Node) -> Steps<()> {
+        self.statement(block)?;
+        self.pass()
+    }
+
+    fn condition(&mut self, node: &Node) -> Steps<bool> {
+        let value = self.expression(node)?;
+        self.step(|_| truth(&value))
+    }
+
+    /// Two steps before the passes; in each pass three before the Block and four after it. The
+    /// size is read once, the index is the loop's own.
+    fn passes(&mut self, node: &Node) -> Steps<()> {
+        let (index_name, item_name, array) = (node.text(), node.item_name(), node.kids[0].text());
+        self.store(index_name, Value::Num(0.0))?;
+        let size = self.step(|walk| walk.array(array).map(|items| items.len() as u64))?;
+        let mut index = 0;
+        loop {
+            self.pass()?;
+            let item = self.step(|walk| walk.item(array, index).cloned())?;
+            self.store(item_name, item)?;
+            self.statement(&node.kids[1])?;
+            self.pass()?;
+            index += 1;
+            self.store(index_name, Value::Num(index as f64))?;
+            self.pass()?;
+            self.pass()?;
+            if index >= size {
+                return Ok(());
+            }
+        }
+    }
+
+    fn expression(&mut self, node: &Node) -> Steps<Value> {
+        match node.kind {
+            NAME => self.step(|walk| walk.read(node.text()).cloned()),
+            BINARY => {
+                let left = self.expression(&node.kids[0])?;
+                let right = self.expression(&node.kids[1])?;
+                self.step(|_| binary(node.body[0], &left, &right))
+            }
+            UNARY => {
+                let arg = self.expression(&node.kids[0])?;
+                self.step(|_| unary(node.body[0], &arg))
+            }
+            _ => self.step(|_| Ok(literal(node))),
+        }
+    }
+}
+
+fn literal(node: &Node) -> Value {
+    match node.kind {
+        NUM => Value::Num(node.number()),
+        TEXT => Value::Text(node.text()),
+        TRUE => Value::Truth(true),
+        FALSE => Value::Truth(false),
+        other => panic!("kind {other} is no literal"),
+    }
+}
+
+/// NaN and negatives give 0, a fraction is cut, 2^64 and above give 2^64 - 1.
+fn index_of(value: &Value) -> Result<u64, Stop> {
+    let Value::Num(n) = value else {
+        return Err(Stop::bare(27));
+    };
+    let top = 18_446_744_073_709_551_616.0;
+    Ok(if *n >= top {
+        u64::MAX
+    } else if *n >= 1.0 {
+        whole_part(*n)
+    } else {
+        0
+    })
+}
+
+/// The whole part of a number from 1 to below 2^64, from its bits.
+fn whole_part(n: f64) -> u64 {
+    let exponent = (n.to_bits() >> 52) as i64 - 1023;
+    let digits = (n.to_bits() & ((1 << 52) - 1)) | (1 << 52);
+    if exponent >= 52 {
+        digits << (exponent - 52)
+    } else {
+        digits >> (52 - exponent)
+    }
+}
+
+fn truth(value: &Value) -> Result<bool, Stop> {
+    match value {
+        Value::Truth(b) => Ok(*b),
+        _ => Err(Stop::bare(27)),
+    }
+}
+
+/// Operators 1 to 10 are for numbers, 11 to 13 for yes and no.
+fn binary(op: u8, left: &Value, right: &Value) -> Result<Value, Stop> {
+    match (left, right) {
+        (Value::Num(a), Value::Num(b)) if op <= 5 => Ok(Value::Num(arithmetic(op, *a, *b))),
+        (Value::Num(a), Value::Num(b)) if op <= 10 => Ok(Value::Truth(order(op, *a, *b))),
+        (Value::Truth(a), Value::Truth(b)) if op > 10 => Ok(Value::Truth(logic(op, *a, *b))),
+        _ => Err(Stop::bare(27)),
+    }
+}
+
+fn arithmetic(op: u8, a: f64, b: f64) -> f64 {
+    match op {
+        1 => a + b,
+        2 => a - b,
+        3 => a * b,
+        4 => a / b,
+        _ => a % b,
+    }
+}
+
+fn order(op: u8, a: f64, b: f64) -> bool {
+    match op {
+        6 => a == b,
+        7 => a <= b,
+        8 => a < b,
+        9 => a >= b,
+        _ => a > b,
+    }
+}
+
+fn logic(op: u8, a: bool, b: bool) -> bool {
+    match op {
+        11 => a && b,
+        12 => a || b,
+        _ => a != b,
+    }
+}
+
+fn unary(op: u8, arg: &Value) -> Result<Value, Stop> {
+    match (op, arg) {
+        (1, Value::Truth(b)) => Ok(Value::Truth(!b)),
+        (2, Value::Num(n)) => Ok(Value::Num(-n)),
+        _ => Err(Stop::bare(27)),
+    }
+}
