@@ -3,6 +3,7 @@
 use crate::bound::{bound_of_program, bound_of_tree};
 use crate::driver::{End, Machine};
 use crate::gen_script::{other, plain};
+use crate::gen_values;
 use crate::listing::{machine_of, names_text, whole_machine};
 use crate::lower::lower_file;
 use crate::original::sifc_bytecode::compiler::CompileResult;
@@ -24,12 +25,19 @@ struct Figures {
     steps: u64,
 }
 
+/// Compares so many scripts: the directed ones on values first, then by the seed.
 pub fn compare(seed: u64, count: u64) -> Result<(), String> {
+    let directed = gen_values::all();
     let mut figures = Figures::default();
     let mut item = 0;
     while figures.scripts < count {
         let mut rng = Rng::new(seed, item);
-        let file = file_of(&plain(&mut rng));
+        let root = match directed.get(item as usize) {
+            Some(root) => root.clone(),
+            None if item % 10 == 0 => gen_values::numbers(&mut rng),
+            None => plain(&mut rng),
+        };
+        let file = file_of(&root);
         one(&file, &mut rng, &mut figures)
             .map_err(|why| format!("seed {seed} item {item}: {why}"))?;
         item += 1;

@@ -28,7 +28,6 @@ pub fn all(variants: usize, seed: u64) -> Vec<(Vec<u8>, u8)> {
     let mut out = Vec::new();
     for first in 0..STAGES {
         for second in first..STAGES {
-            // A wrong structure is refused before its lowering: 8 with 9 is 8.
             for variant in 0..variants {
                 let item = (first * STAGES + second) * 1000 + variant;
                 let mut rng = Rng::new(seed, item as u64);
@@ -150,20 +149,23 @@ impl Spoilt {
     }
 }
 
-/// The tree for some stages: wrong in structure, refused by the lowering, or sound.
+/// The tree for some stages: wrong in structure, refused by the lowering (with 7 if said so), both,
+/// or sound.
 fn root_for(stages: &[usize], rng: &mut Rng) -> (Node, bool) {
-    if stages.contains(&8) {
-        let small = wrong_with_names();
-        return (small[rng.below(small.len())].clone(), false);
-    }
-    if !stages.contains(&9) {
-        return (sound(rng), false);
-    }
     let six = stmt(unary(1, assign(1, num(1.0))));
-    if rng.chance(70) {
-        return (program(vec![set(2, num(1.0)), six]), false);
+    match (stages.contains(&8), stages.contains(&9)) {
+        (true, lowering) => {
+            let wrong = wrong_with_names();
+            let mut root = wrong[rng.below(wrong.len())].clone();
+            if lowering {
+                root.kids.insert(0, six);
+            }
+            (root, false)
+        }
+        (false, true) if rng.chance(70) => (program(vec![set(2, num(1.0)), six]), false),
+        (false, true) => (program(vec![stmt(text(1)); 97]), true),
+        (false, false) => (sound(rng), false),
     }
-    (program(vec![stmt(text(1)); 97]), true)
 }
 
 fn sound(rng: &mut Rng) -> Node {

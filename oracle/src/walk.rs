@@ -335,7 +335,47 @@ fn arithmetic(op: u8, a: f64, b: f64) -> f64 {
         2 => a - b,
         3 => a * b,
         4 => a / b,
-        _ => a % b,
+        _ => remainder(a, b),
+    }
+}
+
+/// Document 01's `%`, in whole numbers: the dividend less the divisor times the quotient cut
+/// toward zero, with the dividend's sign.
+fn remainder(a: f64, b: f64) -> f64 {
+    if a.is_nan() || b.is_nan() || a.is_infinite() || b == 0.0 {
+        return f64::NAN;
+    }
+    if b.is_infinite() {
+        return a;
+    }
+    let ((a_digits, a_exponent), (b_digits, b_exponent)) = (digits(a), digits(b));
+    let (rest, exponent) = if a_exponent >= b_exponent {
+        let doubled = |rest: u64, _| rest * 2 % b_digits;
+        ((b_exponent..a_exponent).fold(a_digits % b_digits, doubled), b_exponent)
+    } else if b_exponent - a_exponent > 64 {
+        (a_digits, a_exponent)
+    } else {
+        let divisor = u128::from(b_digits) << (b_exponent - a_exponent);
+        ((u128::from(a_digits) % divisor) as u64, a_exponent)
+    };
+    (rest as f64 * power_of_two(exponent)).copysign(a)
+}
+
+/// A finite number's size as a whole number times a power of two.
+fn digits(n: f64) -> (u64, i64) {
+    let fraction = n.to_bits() & ((1 << 52) - 1);
+    match (n.to_bits() >> 52) & 0x7ff {
+        0 => (fraction, -1074),
+        exponent => (fraction | (1 << 52), exponent as i64 - 1075),
+    }
+}
+
+/// For exponents from -1074 to 971.
+fn power_of_two(exponent: i64) -> f64 {
+    if exponent < -1022 {
+        f64::from_bits(1 << (exponent + 1074))
+    } else {
+        f64::from_bits(((exponent + 1023) as u64) << 52)
     }
 }
 
