@@ -11,14 +11,14 @@ use lib.Seq.{take-all}
 use Rattle.lent.specs.Bytes.{Each, AreBytes}
 use Rattle.lent.specs.Each.{each-drop}
 use Rattle.lent.specs.Parts.{length-part}
-use Rattle.ast.specs.Node.{Node}
+use Rattle.ast.specs.Node.{kProgram, kElif, kItem, kStmt, kRight, kExpr, Node, node}
 use Rattle.ast.specs.Tree.{Plus, Val, Literal, Name, BinaryExpr, Expression, VarInit, Stmts, noStmts, moreStmts}
-use Rattle.ast.specs.Structure.{Parsed, Takes, stmtsOk, parse}
+use Rattle.ast.specs.Structure.{Parsed, Fails, Takes, _>>=_, many, stmt, stmtsOk, allUsed, parse}
 use Rattle.ast.specs.File.{nodeCount, textCount, contentsSize, lengths, entries, sum, nodeBodies, bodiesSize, nodes, between, countsOk, kindsOk, lengthsOk, textsOk, fieldsOk}
 use Rattle.ast.specs.File.{Read, Refused, Tree, require, structured, readTree}
 use Rattle.ast.specs.Flat.{flat, entryBytes, bodyBytes}
 use Rattle.ast.specs.Limits.{depth, every, textsBelow, numbersFit}
-use Rattle.ast.specs.Sound.{and-left, and-right, Gives, fails, takes, Good, parse-whole}
+use Rattle.ast.specs.Sound.{and-left, and-right, Gives, fails, takes, guarded, Good, parse-whole}
 use Rattle.ast.specs.Entries.{bodiesOf, entries-nodes, bodies-nodes, length-entryBytes, good-nodes}
 
 -- ---- what holds of a tree that is read
@@ -38,16 +38,52 @@ has-structured : {P : Stmts → Type 0} {Q : Stmts → List Node → Type 0} {o 
 has-structured fails k = refused
 has-structured (takes {a = t} {ms = ns} h) k = tree (k t ns h)
 
+-- the file after its checks
+read-checked : {P : Stmts → Type 0} (f : List ℕ)
+    → (T (countsOk f) → T (leb (contentsSize f) (length f)) → T (kindsOk f) → T (eqb (contentsSize f + bodiesSize f) (length f)) → T (fieldsOk f) → Has P (structured (parse (nodes f))))
+    → Has P (readTree f)
+unfolding readTree
+read-checked f k =
+    requires (leb 3 (length f)) 1 λ h₁.
+    requires (countsOk f) 2 λ h₂.
+    requires (leb (contentsSize f) (length f)) 1 λ h₃.
+    requires (kindsOk f) 4 λ h₄.
+    requires (lengthsOk f) 3 λ h₅.
+    requires (eqb (contentsSize f + bodiesSize f) (length f)) 1 λ h₆.
+    requires (textsOk f) 3 λ h₇.
+    requires (fieldsOk f) 5 λ h₈.
+    k h₂ h₃ h₄ h₆ h₈
+
+-- ---- the structure's limits
+
+allowed : (o : Parsed Stmts) → Gives (λ t ns. stmtsOk t 8 false ≡ true) (o >>= allUsed)
+allowed Fails = fails
+allowed (Takes t []) = guarded (stmtsOk t 8 false) λ h. takes h
+allowed (Takes t (n ∷ ns)) = fails
+
+parse-ok : (ns : List Node) → Gives (λ t ms. stmtsOk t 8 false ≡ true) (parse ns)
+parse-ok [] = fails
+parse-ok (node kProgram c b ∷ ns) = allowed (many moreStmts noStmts (stmt 31) c ns)
+parse-ok (node kElif c b ∷ ns) = fails
+parse-ok (node kItem c b ∷ ns) = fails
+parse-ok (node (kStmt k) c b ∷ ns) = fails
+parse-ok (node (kRight k) c b ∷ ns) = fails
+parse-ok (node (kExpr k) c b ∷ ns) = fails
+
+-- whatever the file's bytes are
+pub read-ok : (f : List ℕ) {t : Stmts} → readTree f ≡ Tree t → stmtsOk t 8 false ≡ true
+read-ok f e = had (rw e at (read-checked f λ h₂ h₃ h₄ h₆ h₈. has-structured (parse-ok (nodes f)) λ t ns h. h))
+
+-- ---- entries, bodies, texts and numbers
+
 pub record Known (p q : ℕ → Bool) (f : List ℕ) (t : Stmts) : Type 0 where
   pub contents : entries f ≡ entryBytes (flat t)
   pub bodies : nodeBodies f ≡ bodyBytes (flat t)
   pub few : length (flat t) ≤ 1024
-  pub ok : stmtsOk t 8 false ≡ true
   pub within : depth t ≤ 32
   pub holds : T (every p q t)
 
 module _ (p q : ℕ → Bool) (f : List ℕ) (ps : (x : ℕ) → x < textCount f → x < 64 → T (p x)) (qs : (v : ℕ) → v < 2 ^ 64 → T (q v)) (a : AreBytes f) where
-  -- the file after its checks
   known : nodeCount f ≤ 1024 → textCount f ≤ 64 → contentsSize f ≤ length f → T (kindsOk f) → contentsSize f + bodiesSize f ≡ length f → T (fieldsOk f)
       → Has (Known p q f) (structured (parse (nodes f)))
   known n64 t64 l ks e fs =
@@ -62,22 +98,12 @@ module _ (p q : ℕ → Bool) (f : List ℕ) (ps : (x : ℕ) → x < textCount f
         contents = c;
         bodies = sym (bodies-nodes (nodeCount f) (entries f) (nodeBodies f) m ∙ take-all (bodiesOf (entries f)) (nodeBodies f) (omega arith)) ∙ ap bodyBytes (h .spelt);
         few = omega arith;
-        ok = h .ok;
         within = h .within;
         holds = h .holds;
       }
 
   read-has : Has (Known p q f) (readTree f)
-  unfolding readTree
-  read-has =
-      requires (leb 3 (length f)) 1 λ h₁.
-      requires (countsOk f) 2 λ h₂.
-      requires (leb (contentsSize f) (length f)) 1 λ h₃.
-      requires (kindsOk f) 4 λ h₄.
-      requires (lengthsOk f) 3 λ h₅.
-      requires (eqb (contentsSize f + bodiesSize f) (length f)) 1 λ h₆.
-      requires (textsOk f) 3 λ h₇.
-      requires (fieldsOk f) 5 λ h₈.
+  read-has = read-checked f λ h₂ h₃ h₄ h₆ h₈.
       let c = and-left (between 1 1024 (nodeCount f)) (between 1 64 (textCount f)) h₂ in
       let d = and-right (between 1 1024 (nodeCount f)) (between 1 64 (textCount f)) h₂ in
       known (leb→le (nodeCount f) 1024 (and-right (leb 1 (nodeCount f)) (leb (nodeCount f) 1024) c)) (leb→le (textCount f) 64 (and-right (leb 1 (textCount f)) (leb (textCount f) 64) d))
@@ -108,7 +134,7 @@ module _ {f : List ℕ} {t : Stmts} (a : AreBytes f) (e : readTree f ≡ Tree t)
   read-numbers = read-known (λ x. true) (λ v. ltb v (2 ^ 64)) f (λ x i j. tt) (λ v i. lt→ltb v (2 ^ 64) i) a e .holds
 
   pub read-limits : (length (flat t) ≤ 1024) × (depth t ≤ 32) × (stmtsOk t 8 false ≡ true)
-  read-limits = let k = known-texts 64 (λ x i j. j) in (k .few, k .within, k .ok)
+  read-limits = let k = known-texts 64 (λ x i j. j) in (k .few, k .within, read-ok f e)
 
 -- ---- a script: x = 1 + x
 

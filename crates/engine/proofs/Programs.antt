@@ -15,249 +15,249 @@ abbrev programs : List ProgramRow
 programs =
     -- Mv copies a register, and an empty one
     programRow 0 9 (
-        instr 0 (Ldc 0 (One (Num (ofBits binary64 0x4000000000000000)))) ∷
-        instr 0 (Mv 0 1) ∷
-        instr 0 (Mv 5 0) ∷
-        instr 0 (Mv 1 1) ∷
-        [])
+    instr 0 (Ldc 0 (One (Num (ofBits binary64 0x4000000000000000)))) ∷
+    instr 0 (Mv 0 1) ∷
+    instr 0 (Mv 5 0) ∷
+    instr 0 (Mv 1 1) ∷
+    [])
     "end done 4\nheld 0\nreg 1 Num:4000000000000000\nstack\ncalls\nposition 4\ncount 4\n" ∷
     -- Decrr
     programRow 0 9 (
-        instr 0 (Ldc 0 (One (Num (ofBits binary64 0x4000000000000000)))) ∷
-        instr 0 (Decrr 0) ∷
-        instr 0 (Decrr 0) ∷
-        instr 0 (Decrr 0) ∷
-        [])
+    instr 0 (Ldc 0 (One (Num (ofBits binary64 0x4000000000000000)))) ∷
+    instr 0 (Decrr 0) ∷
+    instr 0 (Decrr 0) ∷
+    instr 0 (Decrr 0) ∷
+    [])
     "end done 4\nheld 0\nreg 0 Num:bff0000000000000\nstack\ncalls\nposition 4\ncount 4\n" ∷
     -- 23: Decrr of an empty register
     programRow 0 9 (
-        instr 0 (Nop) ∷
-        instr 0 (Decrr 3) ∷
-        [])
+    instr 0 (Nop) ∷
+    instr 0 (Decrr 3) ∷
+    [])
     "end stopped 1 23 2\nheld 0\nstack\ncalls\nposition 1\ncount 1\n" ∷
     -- 24: Decrr of a text
     programRow 0 9 (
-        instr 0 (Ldc 0 (One (Text 1))) ∷
-        instr 0 (Decrr 0) ∷
-        [])
+    instr 0 (Ldc 0 (One (Text 1))) ∷
+    instr 0 (Decrr 0) ∷
+    [])
     "end stopped 1 24 2\nheld 0\nreg 0 Str:1\nstack\ncalls\nposition 1\ncount 1\n" ∷
     -- 21: Incrr of an empty register
     programRow 0 9 (
-        instr 0 (Incrr 0) ∷
-        [])
+    instr 0 (Incrr 0) ∷
+    [])
     "end stopped 0 21 1\nheld 0\nstack\ncalls\nposition 0\ncount 0\n" ∷
     -- 22: Incrr of an array
     programRow 0 9 (
-        instr 0 (Ldc 0 (Arr ([]))) ∷
-        instr 0 (Incrr 0) ∷
-        [])
+    instr 0 (Ldc 0 (Arr ([]))) ∷
+    instr 0 (Incrr 0) ∷
+    [])
     "end stopped 1 22 2\nheld 0\nreg 0 Arr:[]\nstack\ncalls\nposition 1\ncount 1\n" ∷
     -- Stop carries on
     programRow 0 9 (
-        instr 0 (Stc (One (Num (ofBits binary64 0x4000000000000000))) 1) ∷
-        instr 0 (Stop) ∷
-        instr 0 (Stc (One (Bl true)) 2) ∷
-        [])
+    instr 0 (Stc (One (Num (ofBits binary64 0x4000000000000000))) 1) ∷
+    instr 0 (Stop) ∷
+    instr 0 (Stc (One (Bl true)) 2) ∷
+    [])
     "end done 3\nheld 2\nname 1 Num:4000000000000000\nname 2 Bl:1\nstack\ncalls\nposition 3\ncount 3\n" ∷
     -- Neq
     programRow 0 9 (
-        instr 0 (Ldc 0 (One (Num (ofBits binary64 0x4000000000000000)))) ∷
-        instr 0 (Ldc 1 (One (Num (ofBits binary64 0x7ff8000000000000)))) ∷
-        instr 0 (Binary Neq 0 0 2) ∷
-        instr 0 (Binary Neq 0 1 3) ∷
-        instr 0 (Binary Neq 1 1 4) ∷
-        [])
+    instr 0 (Ldc 0 (One (Num (ofBits binary64 0x4000000000000000)))) ∷
+    instr 0 (Ldc 1 (One (Num (ofBits binary64 0x7ff8000000000000)))) ∷
+    instr 0 (Binary Neq 0 0 2) ∷
+    instr 0 (Binary Neq 0 1 3) ∷
+    instr 0 (Binary Neq 1 1 4) ∷
+    [])
     "end done 5\nheld 0\nreg 0 Num:4000000000000000\nreg 1 Num:7ff8000000000000\nreg 2 Bl:0\nreg 3 Bl:1\nreg 4 Bl:1\nstack\ncalls\nposition 5\ncount 5\n" ∷
     -- Tblg, a key that is there
     programRow 0 9 (
-        instr 0 (Stc (Tab []) 1) ∷
-        instr 0 (Ldc 0 (One (Num (ofBits binary64 0x4000000000000000)))) ∷
-        instr 0 (Tbli 1 5 0) ∷
-        instr 0 (Tbli 1 3 0) ∷
-        instr 0 (Tblg 1 5 2) ∷
-        [])
+    instr 0 (Stc (Tab []) 1) ∷
+    instr 0 (Ldc 0 (One (Num (ofBits binary64 0x4000000000000000)))) ∷
+    instr 0 (Tbli 1 5 0) ∷
+    instr 0 (Tbli 1 3 0) ∷
+    instr 0 (Tblg 1 5 2) ∷
+    [])
     "end done 5\nheld 1\nname 1 Tab:[3=Num:4000000000000000,5=Num:4000000000000000]\nreg 0 Num:4000000000000000\nreg 2 Num:4000000000000000\nstack\ncalls\nposition 5\ncount 5\n" ∷
     -- 33: Tblg, a key that is absent
     programRow 0 9 (
-        instr 0 (Stc (Tab []) 1) ∷
-        instr 0 (Tblg 1 5 2) ∷
-        [])
+    instr 0 (Stc (Tab []) 1) ∷
+    instr 0 (Tblg 1 5 2) ∷
+    [])
     "end stopped 1 33 2\nheld 1\nname 1 Tab:[]\nstack\ncalls\nposition 1\ncount 1\n" ∷
     -- 20: Tblg of an unset name
     programRow 0 9 (
-        instr 0 (Tblg 1 5 2) ∷
-        [])
+    instr 0 (Tblg 1 5 2) ∷
+    [])
     "end stopped 0 20 1 1\nheld 0\nstack\ncalls\nposition 0\ncount 0\n" ∷
     -- Tblg of what is no table has no effect
     programRow 0 9 (
-        instr 0 (Stc (Arr ((Bl true) ∷ Null ∷ [])) 1) ∷
-        instr 0 (Tblg 1 5 2) ∷
-        [])
+    instr 0 (Stc (Arr ((Bl true) ∷ Null ∷ [])) 1) ∷
+    instr 0 (Tblg 1 5 2) ∷
+    [])
     "end done 2\nheld 1\nname 1 Arr:[Bl:1,Null]\nstack\ncalls\nposition 2\ncount 2\n" ∷
     -- Tbli of what is no table has no effect, also with an empty register
     programRow 0 9 (
-        instr 0 (Stc (One Null) 1) ∷
-        instr 0 (Tbli 1 5 2) ∷
-        [])
+    instr 0 (Stc (One Null) 1) ∷
+    instr 0 (Tbli 1 5 2) ∷
+    [])
     "end done 2\nheld 1\nname 1 Null\nstack\ncalls\nposition 2\ncount 2\n" ∷
     -- 20 comes before 32 at Tbli
     programRow 0 9 (
-        instr 0 (Tbli 1 5 2) ∷
-        [])
+    instr 0 (Tbli 1 5 2) ∷
+    [])
     "end stopped 0 20 1 1\nheld 0\nstack\ncalls\nposition 0\ncount 0\n" ∷
     -- 36: a 17th key; a key that is there is set
     programRow 0 99 (
-        instr 0 (Stc (Tab []) 1) ∷
-        instr 0 (Ldc 0 (One (Num (ofBits binary64 0x4000000000000000)))) ∷
-        instr 0 (Tbli 1 40 0) ∷
-        instr 0 (Tbli 1 39 0) ∷
-        instr 0 (Tbli 1 38 0) ∷
-        instr 0 (Tbli 1 37 0) ∷
-        instr 0 (Tbli 1 36 0) ∷
-        instr 0 (Tbli 1 35 0) ∷
-        instr 0 (Tbli 1 34 0) ∷
-        instr 0 (Tbli 1 33 0) ∷
-        instr 0 (Tbli 1 32 0) ∷
-        instr 0 (Tbli 1 31 0) ∷
-        instr 0 (Tbli 1 30 0) ∷
-        instr 0 (Tbli 1 29 0) ∷
-        instr 0 (Tbli 1 28 0) ∷
-        instr 0 (Tbli 1 27 0) ∷
-        instr 0 (Tbli 1 26 0) ∷
-        instr 0 (Tbli 1 25 0) ∷
-        instr 0 (Ldc 0 (One (Bl false))) ∷
-        instr 0 (Tbli 1 30 0) ∷
-        instr 0 (Tbli 1 41 0) ∷
-        [])
+    instr 0 (Stc (Tab []) 1) ∷
+    instr 0 (Ldc 0 (One (Num (ofBits binary64 0x4000000000000000)))) ∷
+    instr 0 (Tbli 1 40 0) ∷
+    instr 0 (Tbli 1 39 0) ∷
+    instr 0 (Tbli 1 38 0) ∷
+    instr 0 (Tbli 1 37 0) ∷
+    instr 0 (Tbli 1 36 0) ∷
+    instr 0 (Tbli 1 35 0) ∷
+    instr 0 (Tbli 1 34 0) ∷
+    instr 0 (Tbli 1 33 0) ∷
+    instr 0 (Tbli 1 32 0) ∷
+    instr 0 (Tbli 1 31 0) ∷
+    instr 0 (Tbli 1 30 0) ∷
+    instr 0 (Tbli 1 29 0) ∷
+    instr 0 (Tbli 1 28 0) ∷
+    instr 0 (Tbli 1 27 0) ∷
+    instr 0 (Tbli 1 26 0) ∷
+    instr 0 (Tbli 1 25 0) ∷
+    instr 0 (Ldc 0 (One (Bl false))) ∷
+    instr 0 (Tbli 1 30 0) ∷
+    instr 0 (Tbli 1 41 0) ∷
+    [])
     "end stopped 20 36 21\nheld 1\nname 1 Tab:[25=Num:4000000000000000,26=Num:4000000000000000,27=Num:4000000000000000,28=Num:4000000000000000,29=Num:4000000000000000,30=Bl:0,31=Num:4000000000000000,32=Num:4000000000000000,33=Num:4000000000000000,34=Num:4000000000000000,35=Num:4000000000000000,36=Num:4000000000000000,37=Num:4000000000000000,38=Num:4000000000000000,39=Num:4000000000000000,40=Num:4000000000000000]\nreg 0 Bl:0\nstack\ncalls\nposition 20\ncount 20\n" ∷
     -- a jump to index 0
     programRow 0 7 (
-        instr 0 (Stc (One Null) 1) ∷
-        instr 0 (Jmpa 0) ∷
-        [])
+    instr 0 (Stc (One Null) 1) ∷
+    instr 0 (Jmpa 0) ∷
+    [])
     "end spent 7\nheld 1\nname 1 Null\nstack\ncalls\nposition 1\ncount 7\n" ∷
     -- a taken conditional jump to index 0
     programRow 0 7 (
-        instr 0 (Ldc 0 (One (Bl false))) ∷
-        instr 0 (JmpCnd Jmpf 0 0) ∷
-        [])
+    instr 0 (Ldc 0 (One (Bl false))) ∷
+    instr 0 (JmpCnd Jmpf 0 0) ∷
+    [])
     "end spent 7\nheld 0\nreg 0 Bl:0\nstack\ncalls\nposition 1\ncount 7\n" ∷
     -- 25: a label that is not there, only where the jump is taken
     programRow 0 9 (
-        instr 0 (Ldc 0 (One (Bl false))) ∷
-        instr 0 (JmpCnd Jmpt 0 9) ∷
-        instr 0 (JmpCnd Jmpf 0 9) ∷
-        [])
+    instr 0 (Ldc 0 (One (Bl false))) ∷
+    instr 0 (JmpCnd Jmpt 0 9) ∷
+    instr 0 (JmpCnd Jmpf 0 9) ∷
+    [])
     "end stopped 2 25 3\nheld 0\nreg 0 Bl:0\nstack\ncalls\nposition 2\ncount 2\n" ∷
     -- Ldav with equal registers reads, then writes
     programRow 0 9 (
-        instr 0 (Stc (Arr ((Text 3) ∷ (Bl true) ∷ [])) 1) ∷
-        instr 0 (Ldc 0 (One (Num (ofBits binary64 0x3ff0000000000000)))) ∷
-        instr 0 (Ldav 1 0 0) ∷
-        [])
+    instr 0 (Stc (Arr ((Text 3) ∷ (Bl true) ∷ [])) 1) ∷
+    instr 0 (Ldc 0 (One (Num (ofBits binary64 0x3ff0000000000000)))) ∷
+    instr 0 (Ldav 1 0 0) ∷
+    [])
     "end done 3\nheld 1\nname 1 Arr:[Str:3,Bl:1]\nreg 0 Bl:1\nstack\ncalls\nposition 3\ncount 3\n" ∷
     -- 27 at Upda: an empty value register, before an unset name
     programRow 0 9 (
-        instr 0 (Ldc 0 (One (Num (ofBits binary64 0x4000000000000000)))) ∷
-        instr 0 (Upda 1 0 1) ∷
-        [])
+    instr 0 (Ldc 0 (One (Num (ofBits binary64 0x4000000000000000)))) ∷
+    instr 0 (Upda 1 0 1) ∷
+    [])
     "end stopped 1 27 2\nheld 0\nreg 0 Num:4000000000000000\nstack\ncalls\nposition 1\ncount 1\n" ∷
     -- 31 comes before 34 at Upda
     programRow 0 9 (
-        instr 0 (Stc (Arr ([])) 1) ∷
-        instr 0 (Ldc 0 (One (Num (ofBits binary64 0x4000000000000000)))) ∷
-        instr 0 (Ldc 1 (Tab [])) ∷
-        instr 0 (Upda 1 0 1) ∷
-        [])
+    instr 0 (Stc (Arr ([])) 1) ∷
+    instr 0 (Ldc 0 (One (Num (ofBits binary64 0x4000000000000000)))) ∷
+    instr 0 (Ldc 1 (Tab [])) ∷
+    instr 0 (Upda 1 0 1) ∷
+    [])
     "end stopped 3 31 4 1 2 0\nheld 1\nname 1 Arr:[]\nreg 0 Num:4000000000000000\nreg 1 Tab:[]\nstack\ncalls\nposition 3\ncount 3\n" ∷
     -- 29 before 35; the function table is state
     programRow 2 60 (
-        instr 0 (Call 2 0) ∷
-        instr 0 (Nop) ∷
-        instr 0 (Fn 3 ([])) ∷
-        instr 0 (Call 3 1) ∷
-        [])
+    instr 0 (Call 2 0) ∷
+    instr 0 (Nop) ∷
+    instr 0 (Fn 3 ([])) ∷
+    instr 0 (Call 3 1) ∷
+    [])
     "end stopped 25 35 2\nheld 0\nstack\ncalls 3 3 3 3 3 3 3 3 3 3 3 3 3 3 3 3 3 3 3 3 3 3 3 3\nfn 3 2\nposition 3\ncount 25\n" ∷
     -- 35: the value stack holds 24
     programRow 0 60 (
-        instr 0 (Ldc 0 (One Null)) ∷
-        instr 0 (FnStackPush 0) ∷
-        instr 0 (FnStackPush 0) ∷
-        instr 0 (FnStackPush 0) ∷
-        instr 0 (FnStackPush 0) ∷
-        instr 0 (FnStackPush 0) ∷
-        instr 0 (FnStackPush 0) ∷
-        instr 0 (FnStackPush 0) ∷
-        instr 0 (FnStackPush 0) ∷
-        instr 0 (FnStackPush 0) ∷
-        instr 0 (FnStackPush 0) ∷
-        instr 0 (FnStackPush 0) ∷
-        instr 0 (FnStackPush 0) ∷
-        instr 0 (FnStackPush 0) ∷
-        instr 0 (FnStackPush 0) ∷
-        instr 0 (FnStackPush 0) ∷
-        instr 0 (FnStackPush 0) ∷
-        instr 0 (FnStackPush 0) ∷
-        instr 0 (FnStackPush 0) ∷
-        instr 0 (FnStackPush 0) ∷
-        instr 0 (FnStackPush 0) ∷
-        instr 0 (FnStackPush 0) ∷
-        instr 0 (FnStackPush 0) ∷
-        instr 0 (FnStackPush 0) ∷
-        instr 0 (FnStackPush 0) ∷
-        instr 0 (FnStackPush 0) ∷
-        [])
+    instr 0 (Ldc 0 (One Null)) ∷
+    instr 0 (FnStackPush 0) ∷
+    instr 0 (FnStackPush 0) ∷
+    instr 0 (FnStackPush 0) ∷
+    instr 0 (FnStackPush 0) ∷
+    instr 0 (FnStackPush 0) ∷
+    instr 0 (FnStackPush 0) ∷
+    instr 0 (FnStackPush 0) ∷
+    instr 0 (FnStackPush 0) ∷
+    instr 0 (FnStackPush 0) ∷
+    instr 0 (FnStackPush 0) ∷
+    instr 0 (FnStackPush 0) ∷
+    instr 0 (FnStackPush 0) ∷
+    instr 0 (FnStackPush 0) ∷
+    instr 0 (FnStackPush 0) ∷
+    instr 0 (FnStackPush 0) ∷
+    instr 0 (FnStackPush 0) ∷
+    instr 0 (FnStackPush 0) ∷
+    instr 0 (FnStackPush 0) ∷
+    instr 0 (FnStackPush 0) ∷
+    instr 0 (FnStackPush 0) ∷
+    instr 0 (FnStackPush 0) ∷
+    instr 0 (FnStackPush 0) ∷
+    instr 0 (FnStackPush 0) ∷
+    instr 0 (FnStackPush 0) ∷
+    instr 0 (FnStackPush 0) ∷
+    [])
     "end stopped 25 35 26\nheld 0\nreg 0 Null\nstack Null Null Null Null Null Null Null Null Null Null Null Null Null Null Null Null Null Null Null Null Null Null Null Null\ncalls\nposition 25\ncount 25\n" ∷
     -- 26: the second register
     programRow 0 9 (
-        instr 0 (Ldc 0 (One (Num (ofBits binary64 0x4000000000000000)))) ∷
-        instr 0 (Binary Add 0 7 2) ∷
-        [])
+    instr 0 (Ldc 0 (One (Num (ofBits binary64 0x4000000000000000)))) ∷
+    instr 0 (Binary Add 0 7 2) ∷
+    [])
     "end stopped 1 26 2 7\nheld 0\nreg 0 Num:4000000000000000\nstack\ncalls\nposition 1\ncount 1\n" ∷
     -- a first label that is not 0: label 0 goes to 0, the first label nowhere
     programRow 0 9 (
-        instr 3 (Ldc 0 (One (Bl true))) ∷
-        instr 3 (JmpCnd Jmpt 0 3) ∷
-        instr 4 (Nop) ∷
-        [])
+    instr 3 (Ldc 0 (One (Bl true))) ∷
+    instr 3 (JmpCnd Jmpt 0 3) ∷
+    instr 4 (Nop) ∷
+    [])
     "end stopped 1 25 2\nheld 0\nreg 0 Bl:1\nstack\ncalls\nposition 1\ncount 1\n" ∷
     -- a label entered twice: the last entry counts
     programRow 0 20 (
-        instr 0 (Ldc 0 (One (Bl true))) ∷
-        instr 1 (Stc (One Null) 1) ∷
-        instr 2 (JmpCnd Jmpt 0 5) ∷
-        instr 1 (Stc (One (Bl true)) 2) ∷
-        instr 2 (Jmpa 1) ∷
-        instr 5 (Jmpa 1) ∷
-        [])
+    instr 0 (Ldc 0 (One (Bl true))) ∷
+    instr 1 (Stc (One Null) 1) ∷
+    instr 2 (JmpCnd Jmpt 0 5) ∷
+    instr 1 (Stc (One (Bl true)) 2) ∷
+    instr 2 (Jmpa 1) ∷
+    instr 5 (Jmpa 1) ∷
+    [])
     "end spent 20\nheld 2\nname 1 Null\nname 2 Bl:1\nreg 0 Bl:1\nstack\ncalls\nposition 3\ncount 20\n" ∷
     -- spent inside the program
     programRow 0 3 (
-        instr 0 (Nop) ∷
-        instr 0 (Nop) ∷
-        instr 0 (Nop) ∷
-        instr 0 (Nop) ∷
-        instr 0 (Nop) ∷
-        [])
+    instr 0 (Nop) ∷
+    instr 0 (Nop) ∷
+    instr 0 (Nop) ∷
+    instr 0 (Nop) ∷
+    instr 0 (Nop) ∷
+    [])
     "end spent 3\nheld 0\nstack\ncalls\nposition 3\ncount 3\n" ∷
     -- 0 steps at the end of the program
     programRow 1 0 (
-        instr 0 (Nop) ∷
-        [])
+    instr 0 (Nop) ∷
+    [])
     "end done 0\nheld 0\nstack\ncalls\nposition 1\ncount 0\n" ∷
     -- 0 steps inside it
     programRow 0 0 (
-        instr 0 (Nop) ∷
-        [])
+    instr 0 (Nop) ∷
+    [])
     "end spent 0\nheld 0\nstack\ncalls\nposition 0\ncount 0\n" ∷
     -- the last declaration of a function counts
     programRow 4 9 (
-        instr 0 (Fn 1 (2 ∷ 3 ∷ [])) ∷
-        instr 0 (FnRet) ∷
-        instr 0 (Fn 1 ([])) ∷
-        instr 0 (FnRet) ∷
-        instr 0 (Call 1 0) ∷
-        [])
+    instr 0 (Fn 1 (2 ∷ 3 ∷ [])) ∷
+    instr 0 (FnRet) ∷
+    instr 0 (Fn 1 ([])) ∷
+    instr 0 (FnRet) ∷
+    instr 0 (Call 1 0) ∷
+    [])
     "end done 2\nheld 0\nstack\ncalls\nfn 1 2\nposition 5\ncount 2\n" ∷
     []
 

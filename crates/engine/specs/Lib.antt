@@ -1,3 +1,4 @@
 pub mod Calls
 pub mod Text
 pub mod Listing
+pub mod Scripts

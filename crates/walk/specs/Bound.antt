@@ -3,7 +3,7 @@
 use Prim.Native.Nat.{ℕ, _+_, _^_, max}
 use mathlib.Core.List.{List, [], _∷_}
 use lib.ListN.{length}
-use Rattle.ast.specs.Tree.{Lit, Expr, Literal, Name, BinaryExpr, UnaryExpr, VarAssign, ArrayMut, FnCall, Rhs, Expression, Table, Array, ArrayAccess, Exprs, noExprs, moreExprs}
+use Rattle.ast.specs.Tree.{Expr, Literal, Name, BinaryExpr, UnaryExpr, VarAssign, ArrayMut, FnCall, Rhs, Expression, Table, Array, ArrayAccess, Exprs, noExprs, moreExprs}
 use Rattle.ast.specs.Tree.{Items, noItems, moreItems, Source, OverName, OverCall}
 use Rattle.ast.specs.Tree.{Stmt, Block, IfStmt, ForStmt, Return, ReturnExpr, ExprStmt, VarDecl, VarInit, FnDecl, Stmts, noStmts, moreStmts, Rest, Else, Elif}
 use Rattle.compiler.specs.Lower.{Event, Reg, Push, Below, lowerTree}

@@ -7,7 +7,7 @@ pub mod Positive
 use Prim.Native.Nat.{ℕ, _≤_, _<_}
 use native.Mathlib.Nat.{pow-zero, mul-one}
 use native.Mathlib.Omega.{arith}
-use mathlib.Core.Path.{_≡_, ap, subst, _∙_}
+use mathlib.Core.Path.{_≡_, ap, _∙_}
 use mathlib.Core.List.{[], _++_}
 use lib.Dec.{T}
 use lib.ListN.{length}
@@ -15,9 +15,10 @@ use Rattle.ast.specs.Tree.{Stmts}
 use Rattle.ast.specs.Plain.{plain}
 use Rattle.compiler.specs.Lower.{Decl, Main, lowerTree, pushed, programOf}
 use Rattle.vm.specs.RuntimeErr.{RuntimeErr}
-use Rattle.vm.specs.Machine.{Answer, Done, Stopped, Spent}
+use Rattle.vm.specs.Machine.{Stopped}
 use Rattle.walk.specs.Walk.{Walked, walk, walkCount, walkEnd}
 use Rattle.walk.specs.Bound.{longest, total, bound}
+use Rattle.walk.specs.Simulation.Labels.{main, no-declarations, lays-mono, lays-block}
 use Rattle.walk.specs.Bounded.Cost.{orOneCost, costStmts}
 use Rattle.walk.specs.Bounded.Steps.{Within, ends, stops, Any, script-takes}
 use Rattle.walk.specs.Bounded.Sum.{a-tree}
@@ -27,13 +28,8 @@ count-le : {l b : ℕ} {o : Walked (Unit {0})} → Within l Any b o → walkCoun
 count-le (ends h s p) = h
 count-le (stops h) = omega arith
 
-abbrev Ended : Answer → Type 0
-Ended Done = Unit {0}
-Ended (Stopped r) = ⊥
-Ended Spent = ⊥
-
 count-lt : {l b : ℕ} {o : Walked (Unit {0})} {r : RuntimeErr} → Within l Any b o → walkEnd o ≡ Stopped r → walkCount o < b
-count-lt (ends h s p) e = absurd (subst Ended e tt)
+count-lt (ends h s p) e = let z : _≡_ {A = ℕ} 0 1 = cc e in omega arith
 count-lt (stops h) e = h
 
 -- for any l that is at least 1 and the longest array literal
@@ -58,7 +54,7 @@ bound-positive t p = total-positive _ t p
 
 -- a plain script declares nothing: its program is its code, from index 0 on
 pub plain-declares : (t : Stmts) → T (plain t) → pushed Decl (lowerTree t) ≡ []
-plain-declares t p = a-tree {l = 1} t p .code
+plain-declares t p = no-declarations (lays-mono (lays-block t main 0 0 p))
 
 pub plain-starts : (t : Stmts) → T (plain t) → programOf (lowerTree t) .codeStart ≡ 0
 plain-starts t p = ap length (plain-declares t p)

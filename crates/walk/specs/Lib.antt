@@ -1,5 +1,8 @@
 pub mod Walk
 pub mod Bound
+pub mod Small
+pub mod Parts
+pub mod ShortArrays
 pub mod Runs
 pub mod Theorems
 pub mod Simulation

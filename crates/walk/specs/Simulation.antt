@@ -1,5 +1,4 @@
 -- Lowered code does what the walk says: the lemmas. Theorems has the statements.
-pub mod Small
 pub mod Logic
 pub mod Labels
 pub mod Exprs

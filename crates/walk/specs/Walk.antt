@@ -2,17 +2,17 @@
 -- text and a count of steps; what an operation reads or writes is said by the machine's own functions (Operation). Definitions only.
 use Prim.Native.Nat.{ℕ, zero, suc, _+_, pred}
 use mathlib.Core.Bool.{Bool, true, false}
-use mathlib.Core.List.{List, [], _∷_, map}
-use mathlib.Core.Option.{Option, none, some}
+use mathlib.Core.List.{List, [], map}
+use mathlib.Core.Option.{some}
 use lib.ListN.{length}
 use Rattle.numeric.specs.Whole.{whole}
 use Rattle.sifv.specs.Value.{Single, Num, Null, Value, One, Arr, Tab}
-use Rattle.ast.specs.Tree.{Lit, Expr, Literal, Name, BinaryExpr, UnaryExpr, VarAssign, ArrayMut, FnCall, Rhs, Expression, Table, Array, ArrayAccess}
+use Rattle.ast.specs.Tree.{Expr, Literal, Name, BinaryExpr, UnaryExpr, VarAssign, ArrayMut, FnCall, Rhs, Expression, Table, Array, ArrayAccess}
 use Rattle.ast.specs.Tree.{Items, noItems, moreItems, Source, OverName, OverCall}
 use Rattle.ast.specs.Tree.{Stmt, Block, IfStmt, ForStmt, Return, ReturnExpr, ExprStmt, VarDecl, VarInit, FnDecl, Stmts, noStmts, moreStmts, Rest, Else, Elif}
 use Rattle.compiler.specs.Token.{literal, assigned, binKind, unKind}
 use Rattle.vm.specs.RuntimeErr.{RuntimeErr}
-use Rattle.vm.specs.Operation.{Got, Ok, Err, Names, empty, put, orNull, held, array, binary, unary, truth, read, size, item, update, tabled}
+use Rattle.vm.specs.Operation.{Got, Ok, Err, Names, empty, put, orNull, held, array, binary, unary, truth, read, item, update, tabled}
 use Rattle.vm.specs.Machine.{Answer, Done, Stopped}
 
 -- what comes of a tree: the steps taken, the names left, and a result or the stop that ended it

@@ -1,23 +1,21 @@
--- What the lowering of a plain tree pushes: nothing to the declarations, and instructions whose sum of L to the power of the loops around each is the
--- tree's cost, multiplied by L for each For around it.
+-- What the lowering of a plain tree pushes: instructions whose sum of L to the power of the loops around each is the tree's cost, multiplied by L for
+-- each For around it.
 use Prim.Native.Nat.{ℕ, suc, _+_, _*_, _^_}
 use native.Mathlib.Nat.{pow-suc}
 use native.Mathlib.Omega.{arith}
-use mathlib.Core.Path.{_≡_, refl, ap, _∙_}
-use mathlib.Core.Bool.{Bool, true, false, cond, _&&_}
+use mathlib.Core.Path.{_≡_, _∙_}
 use mathlib.Core.List.{List, [], _∷_, _++_}
-use lib.Dec.{T, eqb}
+use lib.Dec.{T}
 use mir.Facts.{and-yes}
-use Rattle.opc.specs.Op.{Op, Instr, Code}
+use Rattle.opc.specs.Op.{Op}
 use Rattle.ast.specs.Tree.{Lit, Val, Text, Truth, Expr, Literal, Name, BinaryExpr, UnaryExpr, VarAssign, ArrayMut, FnCall, Rhs, Expression, Table, Array, ArrayAccess}
 use Rattle.ast.specs.Tree.{Items, noItems, moreItems, OverName, OverCall}
 use Rattle.ast.specs.Tree.{Stmt, Block, IfStmt, ForStmt, Return, ReturnExpr, ExprStmt, VarDecl, VarInit, FnDecl, Stmts, noStmts, moreStmts, Rest, Else, Elif}
 use Rattle.ast.specs.Plain.{plainLit, orTruth, plainExpr, plainItems, plainRhs, plainOwn, plainStmt, plain, plainRest}
-use Rattle.compiler.specs.Lower.{Section, Decl, Main, Place, Event, Reg, Push, Below, before, push, load, argRegs, exprRegs, stmtRegs, stmtsRegs, stmtLabels, stmtsLabels, restLabels, lowerLit, lowerArg, lowerAssign, lowerExpr, lowerRhs, lowerItems, orNop, lowerArm, lowerFor, lowerStmt, lowerStmts, lowerRest, lowerTree, only, pushed}
+use Rattle.compiler.specs.Lower.{Main, Place, Event, Reg, Push, Below, before, push, load, argRegs, exprRegs, stmtRegs, stmtsRegs, stmtLabels, stmtsLabels, restLabels, lowerLit, lowerArg, lowerAssign, lowerExpr, lowerRhs, lowerItems, orNop, lowerArm, lowerFor, lowerStmt, lowerStmts, lowerRest, lowerTree}
+use Rattle.walk.specs.Parts.{arm-plain, operand, nothing-pushed}
 use Rattle.walk.specs.Bound.{total}
 use Rattle.walk.specs.Bounded.Cost.{costExpr, costAssign, costItems, costRhs, costOwn, orOneCost, costStmt, costStmts, costRest}
-
--- ---- both over ++
 
 total-append : (l : ℕ) (s t : List Event) → total l (s ++ t) ≡ total l s + total l t
 total-append l [] t = omega arith
@@ -25,45 +23,26 @@ total-append l (Reg ∷ s) t = total-append l s t
 total-append l (Push w i ∷ s) t = omega (arith, total-append l s t)
 total-append l (Below ∷ s) t = total-append l s t
 
-only-append : (s u : Section) (i : Instr) (c d : Code) → only s u i (c ++ d) ≡ only s u i c ++ d
-only-append Decl Decl i c d = refl
-only-append Decl Main i c d = refl
-only-append Main Decl i c d = refl
-only-append Main Main i c d = refl
-
-pub pushed-append : (u : Section) (s t : List Event) → pushed u (s ++ t) ≡ pushed u s ++ pushed u t
-pushed-append u [] t = refl
-pushed-append u (Reg ∷ s) t = pushed-append u s t
-pushed-append u (Push w i ∷ s) t = ap (only u (w .section) i) (pushed-append u s t) ∙ only-append u (w .section) i (pushed u s) (pushed u t)
-pushed-append u (Below ∷ s) t = pushed-append u s t
-
-arm-plain : (c : Expr) (b : Stmts) (k : Rest) → T (plainExpr c && (plain b && plainRest k)) → T (plainExpr c) × T (plain b) × T (plainRest k)
-arm-plain c b k h =
-    let y = and-yes (plainExpr c) (plain b && plainRest k) h in
-    let z = and-yes (plain b) (plainRest k) (y .1) in
-    (y .0, z .0, z .1)
-
 -- in the code, d For nodes around
 abbrev pub main : ℕ → Place
 main d = record { section = Main; loops = d }
 
--- events that stand d For nodes deep, all in the code, and add up to the cost c
+-- events that stand d For nodes deep and add up to the cost c
 pub record Adds (l d : ℕ) (es : List Event) (c : ℕ) : Type 0 where
   pub sum : total l es ≡ c * l ^ d
-  pub code : pushed Decl es ≡ []
 
 module _ {l : ℕ} where
   a-none : {d : ℕ} → Adds l d [] 0
-  a-none = record { sum = omega arith; code = refl }
+  a-none = record { sum = omega arith }
 
   a-push : {d : ℕ} {es : List Event} {c : ℕ} (n : ℕ) (o : Op) → Adds l d es c → Adds l d (push (main d) n o ∷ es) (1 + c)
-  a-push n o h = record { sum = omega (arith, h .sum); code = h .code }
+  a-push n o h = record { sum = omega (arith, h .sum) }
 
   a-reg : {d : ℕ} {es : List Event} {c : ℕ} → Adds l d es c → Adds l d (Reg ∷ es) c
-  a-reg h = record { sum = h .sum; code = h .code }
+  a-reg h = record { sum = h .sum }
 
   a-append : {d : ℕ} {s t : List Event} {a b : ℕ} → Adds l d s a → Adds l d t b → Adds l d (s ++ t) (a + b)
-  a-append {s} {t} h k = record { sum = total-append l s t ∙ omega (arith, h .sum, k .sum); code = pushed-append Decl s t ∙ rw (h .code) (k .code) }
+  a-append {s} {t} h k = record { sum = total-append l s t ∙ omega (arith, h .sum, k .sum) }
 
   a-is : {d : ℕ} {es : List Event} {a b : ℕ} → a ≡ b → Adds l d es a → Adds l d es b
   a-is e h = rw e at h
@@ -74,16 +53,12 @@ module _ {l : ℕ} where
   a-load : {d : ℕ} (n : ℕ) (o : Op) → Adds l d (load (main d) n o) 1
   a-load n o = a-reg (a-one n o)
 
-  a-cond : {d : ℕ} {es : List Event} {c : ℕ} (b : Bool) → Adds l d es c → Adds l d (cond b (Below ∷ []) [] ++ es) c
-  a-cond true h = record { sum = h .sum; code = h .code }
-  a-cond false h = h
-
   a-before : {d : ℕ} {es : List Event} {c : ℕ} (r : ℕ) → Adds l d es c → Adds l d (before r ++ es) c
-  a-before r h = a-cond (eqb r 0) h
+  a-before {d} {es} {c} r h = nothing-pushed (λ x. Adds l d (x ++ es) c) r (record { sum = h .sum }) h
 
   -- a For's inside, seen from outside
   a-inner : {d : ℕ} {es : List Event} {c : ℕ} → Adds l (suc d) es c → Adds l d es (l * c)
-  a-inner {d} {c} h = record { sum = h .sum ∙ rw pow-suc (omega arith); code = h .code }
+  a-inner {d} {c} h = record { sum = h .sum ∙ rw pow-suc (omega arith) }
 
   -- ---- expressions and right sides
 
@@ -93,15 +68,7 @@ module _ {l : ℕ} where
   a-lit n r (Truth b) h = absurd h
 
   a-arg : {d : ℕ} {es : List Event} (n r : ℕ) (a : Expr) → T (orTruth a (plainExpr a)) → (T (plainExpr a) → Adds l d es (costExpr a)) → Adds l d (lowerArg (main d) n a r es) (costExpr a)
-  a-arg n r (Literal (Val b)) h k = k tt
-  a-arg n r (Literal (Text t)) h k = k tt
-  a-arg n r (Literal (Truth b)) h k = a-load n _
-  a-arg n r (Name x) h k = k h
-  a-arg n r (BinaryExpr t a b) h k = k h
-  a-arg n r (UnaryExpr t a) h k = k h
-  a-arg n r (VarAssign x y) h k = k h
-  a-arg n r (ArrayMut x i v) h k = k h
-  a-arg n r (FnCall f ps) h k = k h
+  a-arg {d} {es} n r a h k = operand (λ b q c. Adds l d c (costExpr b)) (main d) n r a 0 es h (λ b. a-load n _) k
 
   a-expr : {d : ℕ} (e : Expr) (n r : ℕ) → T (plainExpr e) → Adds l d (lowerExpr e (main d) n r) (costExpr e)
   a-expr (Literal c) n r h = a-lit n r c h

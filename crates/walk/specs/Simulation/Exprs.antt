@@ -6,6 +6,7 @@ use mathlib.Core.Path.{_≡_, refl, _∙_}
 use mathlib.Core.List.{List}
 use mathlib.Core.Option.{some}
 use lib.Dec.{T}
+use mir.Facts.{and-yes}
 use Rattle.sifv.specs.Value.{Value, One}
 use Rattle.opc.specs.Op.{Op, Ldc}
 use Rattle.tables.specs.Tables.{Program}
@@ -16,18 +17,18 @@ use Rattle.compiler.specs.Lower.{Place, Event, prev, argRegs, exprRegs, load, l
 use Rattle.vm.specs.Operation.{Got, Ok, Names, binary, unary, read}
 use Rattle.vm.specs.Machine.{loads, execute}
 use Rattle.walk.specs.Walk.{Walked, gets, walkExpr}
-use Rattle.walk.specs.Simulation.Small.{SmallValue, single, Smalls, Good, ok, good-binary, good-unary, good-read}
-use Rattle.walk.specs.Simulation.Logic.{Regs, keep-trans, mk, At, split, past, Sim, Holds, sim-bind, sim-weaken, sim-load}
-use Rattle.walk.specs.Simulation.Labels.{both, Operand, truth, other, operand}
+use Rattle.walk.specs.Small.{single, Good, ok, good-binary, good-unary, good-read}
+use Rattle.walk.specs.Parts.{operand}
+use Rattle.walk.specs.Simulation.Logic.{Exact, ExactValue, Regs, keep-trans, mk, At, split, past, Sim, Holds, sim-bind, sim-weaken, sim-load}
 
 -- code from register r on that leaves the value of f in the register before t, the next that is free
 pub record Gives (P : Program) (r t : ℕ) (es : List Event) (f : Names → Walked Value) : Type 0 where
   pub less : r < t
-  pub gives : {p a q b : ℕ} → At P p a es q b → (e : Names) (rs : Regs) → Smalls e → Sim P (mk P p e rs) q (Holds (prev t) r rs) (f e)
+  pub gives : {p a q b : ℕ} → At P p a es q b → (e : Names) (rs : Regs) → Exact e → Sim P (mk P p e rs) q (Holds (prev t) r rs) (f e)
 
 module _ {P : Program} where
   -- one load of what a read of the names gives
-  gives-one : {w : Place} {n : ℕ} {o : Op} (r : ℕ) (g : Names → Got Value) → ((e : Names) → Smalls e → Good SmallValue (g e))
+  gives-one : {w : Place} {n : ℕ} {o : Op} (r : ℕ) (g : Names → Got Value) → ((e : Names) → Exact e → Good ExactValue (g e))
       → ((p : ℕ) (e : Names) (rs : Regs) → execute P (mk P p e rs) o ≡ loads (mk P p e rs) r (g e)) → Gives P r (r + 1) (load w n o) (λ e. gets e (g e))
   gives-one r g i k = record { less = omega arith; gives = λ {p} h e rs s. sim-load r (prev (r + 1)) r rs (g e) h (le-refl r) (omega arith) s (i e s) (k p e rs) }
 
@@ -37,12 +38,7 @@ module _ {P : Program} where
   module _ (w : Place) (n : ℕ) where
     gives-arg : (a : Expr) (r : ℕ) → T (orTruth a (plainExpr a)) → (T (plainExpr a) → Gives P r (r + exprRegs a) (lowerExpr a w n r) (walkExpr a))
         → Gives P r (r + argRegs a (exprRegs a)) (lowerArg w n a r (lowerExpr a w n r)) (walkExpr a)
-    gives-arg a r t f = go (operand a t) f
-      where
-        go : {a : Expr} → Operand a → (T (plainExpr a) → Gives P r (r + exprRegs a) (lowerExpr a w n r) (walkExpr a))
-            → Gives P r (r + argRegs a (exprRegs a)) (lowerArg w n a r (lowerExpr a w n r)) (walkExpr a)
-        go (truth {b}) f = gives-value r (Truth b)
-        go (other {a} p k e) f = rw (e w n r (lowerExpr a w n r), k (exprRegs a)) (f p)
+    gives-arg a r t f = operand (λ b k es. Gives P r (r + k) es (walkExpr b)) w n r a (exprRegs a) (lowerExpr a w n r) t (λ b. gives-value r (Truth b)) f
 
     pub gives-expr : (x : Expr) (r : ℕ) → T (plainExpr x) → Gives P r (r + exprRegs x) (lowerExpr x w n r) (walkExpr x)
     gives-expr (Literal (Val b)) r t = gives-value r (Val b)
@@ -50,7 +46,7 @@ module _ {P : Program} where
     gives-expr (Literal (Truth b)) r t = absurd t
     gives-expr (Name x) r t = gives-one r (λ e. read e x) (λ e s. good-read x s) (λ p e rs. refl)
     gives-expr (BinaryExpr o a b) r t =
-        let z = both (orTruth a (plainExpr a)) (orTruth b (plainExpr b)) t in
+        let z = and-yes (orTruth a (plainExpr a)) (orTruth b (plainExpr b)) t in
         let q = r + argRegs a (exprRegs a) in
         let p = q + argRegs b (exprRegs b) in
         let x = gives-arg a r (z .0) (gives-expr a r) in

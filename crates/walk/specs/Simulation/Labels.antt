@@ -1,43 +1,22 @@
 -- The lowered code of a plain script: all of it stands in the main section, each part begins with its label, and labels never decrease. Assumes nothing.
-use Prim.Native.Nat.{ℕ, suc, _+_, _-_, _≤_, _<_}
+use Prim.Native.Nat.{ℕ, suc, _+_, _≤_, _<_}
 use native.Mathlib.Nat.{le-refl, le-trans}
 use native.Mathlib.Omega.{arith}
 use mathlib.Core.Path.{_≡_, refl}
-use mathlib.Core.Bool.{Bool, true, false, cond, _&&_}
 use mathlib.Core.List.{List, [], _∷_, _++_}
 use mathlib.Core.Option.{some}
-use lib.Dec.{T, eqb}
+use lib.Dec.{T}
+use mir.Facts.{and-yes}
 use Rattle.opc.specs.Op.{Op, Nop, Instr, instr, label}
 use Rattle.tables.specs.Tables.{Program, labelAt}
 use Rattle.ast.specs.Tree.{Val, Text, Truth, Expr, Literal, Name, BinaryExpr, UnaryExpr, VarAssign, ArrayMut, FnCall, Rhs, Expression, Table, Array, ArrayAccess}
 use Rattle.ast.specs.Tree.{Items, noItems, moreItems, OverName, OverCall}
 use Rattle.ast.specs.Tree.{Stmt, Block, IfStmt, ForStmt, Return, ReturnExpr, ExprStmt, VarDecl, VarInit, FnDecl, Stmts, noStmts, moreStmts, Rest, Else, Elif}
 use Rattle.ast.specs.Plain.{orTruth, plainExpr, plainItems, plainRhs, plainOwn, plainStmt, plain, plainRest}
-use Rattle.compiler.specs.Lower.{Main, Place, Event, Reg, Push, Below, before, argRegs, exprRegs, stmtRegs, stmtsRegs, elseLabels, stmtLabels, stmtsLabels, restLabels, push, load}
-use Rattle.compiler.specs.Lower.{lowerArg, lowerExpr, lowerRhs, lowerItems, orNop, lowerArm, inner, lowerStmt, lowerStmts, lowerRest}
+use Rattle.compiler.specs.Lower.{Decl, Main, Place, Event, Reg, Push, Below, before, argRegs, exprRegs, stmtRegs, stmtsRegs, elseLabels, stmtLabels, stmtsLabels, restLabels, push, load}
+use Rattle.compiler.specs.Lower.{lowerArg, lowerExpr, lowerRhs, lowerItems, orNop, lowerArm, inner, lowerStmt, lowerStmts, lowerRest, pushed}
+use Rattle.walk.specs.Parts.{arm-plain, operand, nothing-pushed}
 use Rattle.walk.specs.Simulation.Logic.{At, here, reg, below, more}
-
-pub both : (a b : Bool) → T (a && b) → T a × T b
-both true true t = (tt, tt)
-both true false t = absurd t
-both false b t = absurd t
-
--- ---- an operand is plain elsewhere too, or True or False
-
-pub data Operand : Expr → Type 0 where
-  truth : {b : Bool} → Operand (Literal (Truth b))
-  other : {a : Expr} → T (plainExpr a) → ((k : ℕ) → argRegs a k ≡ k) → ((w : Place) (n r : ℕ) (es : List Event) → lowerArg w n a r es ≡ es) → Operand a
-
-pub operand : (a : Expr) → T (orTruth a (plainExpr a)) → Operand a
-operand (Literal (Val b)) t = other tt (λ k. refl) (λ w n r es. refl)
-operand (Literal (Text b)) t = other tt (λ k. refl) (λ w n r es. refl)
-operand (Literal (Truth b)) t = truth
-operand (Name x) t = other tt (λ k. refl) (λ w n r es. refl)
-operand (BinaryExpr o a b) t = other t (λ k. refl) (λ w n r es. refl)
-operand (UnaryExpr o a) t = other t (λ k. refl) (λ w n r es. refl)
-operand (VarAssign x k) t = absurd t
-operand (ArrayMut x i v) t = absurd t
-operand (FnCall f ps) t = absurd t
 
 -- ---- in the main section
 
@@ -74,11 +53,13 @@ mono-append (asked l) m = asked (mono-append l m)
 mono-append (then s h l) m = then s h (mono-append l m)
 
 mono-before : {a b : ℕ} (r : ℕ) {es : List Event} → Mono a es b → Mono a (before r ++ es) b
-mono-before {a} {b} r {es} m = go (eqb r 0)
-  where
-    go : (t : Bool) → Mono a (cond t (Below ∷ []) [] ++ es) b
-    go true = asked m
-    go false = m
+mono-before {a} {b} r {es} m = nothing-pushed (λ c. Mono a (c ++ es) b) r (asked m) m
+
+pub no-declarations : {a b : ℕ} {es : List Event} → Mono a es b → pushed Decl es ≡ []
+no-declarations (end h) = refl
+no-declarations (took m) = no-declarations m
+no-declarations (asked m) = no-declarations m
+no-declarations (then main h m) = no-declarations m
 
 -- the last label of code that stands in a program
 pub last-le : {P : Program} {p a q b n n′ : ℕ} {c : List Event} → At P p a c q b → Mono n c n′ → a ≤ n → b ≤ n′
@@ -116,11 +97,7 @@ module _ {w : Place} (h : InMain w) {n : ℕ} where
   lays-load = skip lays-one
 
   lays-arg : (a : Expr) (r : ℕ) → T (orTruth a (plainExpr a)) → (T (plainExpr a) → Lays n (lowerExpr a w n r) n) → Lays n (lowerArg w n a r (lowerExpr a w n r)) n
-  lays-arg a r t f = go (operand a t) f
-    where
-      go : {a : Expr} → Operand a → (T (plainExpr a) → Lays n (lowerExpr a w n r) n) → Lays n (lowerArg w n a r (lowerExpr a w n r)) n
-      go truth f = lays-load
-      go (other {a} p k e) f = rw (e w n r (lowerExpr a w n r)) (f p)
+  lays-arg a r t f = operand (λ b k es. Lays n es n) w n r a (exprRegs a) (lowerExpr a w n r) t (λ b. lays-load) f
 
   pub lays-expr : (e : Expr) (r : ℕ) → T (plainExpr e) → Lays n (lowerExpr e w n r) n
   lays-expr (Literal (Val b)) r t = lays-load
@@ -128,7 +105,7 @@ module _ {w : Place} (h : InMain w) {n : ℕ} where
   lays-expr (Literal (Truth b)) r t = absurd t
   lays-expr (Name x) r t = lays-load
   lays-expr (BinaryExpr o a b) r t =
-      let z = both (orTruth a (plainExpr a)) (orTruth b (plainExpr b)) t in
+      let z = and-yes (orTruth a (plainExpr a)) (orTruth b (plainExpr b)) t in
       let q = r + argRegs a (exprRegs a) in
       lays-append (lays-arg a r (z .0) (lays-expr a r)) (mono-before q (mono-append (lays-mono (lays-arg b q (z .1) (lays-expr b q)))
       (mono-before (q + argRegs b (exprRegs b)) (lays-mono lays-load))))
@@ -140,7 +117,7 @@ module _ {w : Place} (h : InMain w) {n : ℕ} where
   mono-items : (is : Items) (x r : ℕ) → T (plainItems is) → Mono n (lowerItems is x w n r) n
   mono-items noItems x r t = end (le-refl _)
   mono-items (moreItems k e is) x r t =
-      let z = both (plainExpr e) (plainItems is) t in
+      let z = and-yes (plainExpr e) (plainItems is) t in
       mono-append (lays-mono (lays-expr e r (z .0))) (then h (le-refl _) (mono-items is x (r + exprRegs e) (z .1)))
 
   lays-rhs : (k : Rhs) (x r : ℕ) → T (plainRhs k) → Lays n (lowerRhs k x w n r) n
@@ -162,7 +139,7 @@ module _ {w : Place} (h : InMain w) {n : ℕ} where
   lays-own (UnaryExpr o a) r t = lays-expr (UnaryExpr o a) r t
   lays-own (VarAssign x k) r t = lays-rhs k x r t
   lays-own (ArrayMut x i v) r t =
-      let z = both (plainExpr i) (plainExpr v) t in
+      let z = and-yes (plainExpr i) (plainExpr v) t in
       let q = r + exprRegs v in
       lays-append (lays-expr v r (z .1)) (mono-before q (mono-append (lays-mono (lays-expr i q (z .0))) (lays-mono lays-one)))
   lays-own (FnCall f ps) r t = absurd t
@@ -203,12 +180,11 @@ mutual
   pub lays-stmt : (s : Stmt) {w : Place} → InMain w → (n r : ℕ) → T (plainStmt s) → Lays n (lowerStmt s w n r) (n + stmtLabels s)
   lays-stmt (Block b) h n r t = part-block h (part-stmts b h n r t)
   lays-stmt (IfStmt c b k) h n r t =
-      let z = both (plainExpr c) (plain b && plainRest k) t in
-      let y = both (plain b) (plainRest k) (z .1) in
+      let z = arm-plain c b k t in
       let q = r + exprRegs c in
       let m = n + 1 + stmtsLabels b in
       let last = m + 1 + restLabels k in
-      lays-to (lays-arm h q last (lays-expr h c r (z .0)) (part-block h (part-stmts b h (n + 1) q (y .0))) (lays-rest k h (m + 1) (q + stmtsRegs b) last refl (y .1))) (omega arith)
+      lays-to (lays-arm h q last (lays-expr h c r (z .0)) (part-block h (part-stmts b h (n + 1) q (z .1))) (lays-rest k h (m + 1) (q + stmtsRegs b) last refl (z .2))) (omega arith)
   lays-stmt (ForStmt i v (OverName a) b) h n r t =
       let g = in-inner h in
       let m = n + 1 + stmtsLabels b in
@@ -227,7 +203,7 @@ mutual
   part-stmts : (k : Stmts) {w : Place} → InMain w → (n r : ℕ) → T (plain k) → Part n k (lowerStmts k w n r) (n + stmtsLabels k)
   part-stmts noStmts h n r t = let z : n ≤ n + 0 = omega arith in nothing z
   part-stmts (moreStmts s k) h n r t =
-      let z = both (plainStmt s) (plain k) t in
+      let z = and-yes (plainStmt s) (plain k) t in
       let y : n + stmtLabels s + stmtsLabels k ≤ n + (stmtLabels s + stmtsLabels k) = omega arith in
       something (lays-append (lays-stmt s h n r (z .0)) (mono-to (part-mono (part-stmts k h (n + stmtLabels s) (r + stmtRegs s) (z .1))) y))
 
@@ -235,11 +211,10 @@ mutual
   pub lays-rest : (k : Rest) {w : Place} → InMain w → (n r end : ℕ) → n + restLabels k ≡ end → T (plainRest k) → Lays n (lowerRest k w n r end) end
   lays-rest (Else k) h n r last g t = part-else h n last (stmtsLabels k) (part-stmts k h n r t) g
   lays-rest (Elif c b k) h n r last g t =
-      let z = both (plainExpr c) (plain b && plainRest k) t in
-      let y = both (plain b) (plainRest k) (z .1) in
+      let z = arm-plain c b k t in
       let q = r + exprRegs c in
       let m = n + 1 + stmtsLabels b in
-      lays-arm h q last (lays-expr h c r (z .0)) (part-block h (part-stmts b h (n + 1) q (y .0))) (lays-rest k h (m + 1) (q + stmtsRegs b) last (omega arith) (y .1))
+      lays-arm h q last (lays-expr h c r (z .0)) (part-block h (part-stmts b h (n + 1) q (z .1))) (lays-rest k h (m + 1) (q + stmtsRegs b) last (omega arith) (z .2))
 
 pub lays-block : (b : Stmts) {w : Place} → InMain w → (n r : ℕ) → T (plain b) → Lays n (orNop b w n (lowerStmts b w n r)) (n + stmtsLabels b)
 lays-block b h n r t = part-block h (part-stmts b h n r t)

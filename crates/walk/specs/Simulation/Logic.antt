@@ -1,11 +1,11 @@
 -- The logic of the simulation: steps of a program, lowered code that stands in it, and what comes of a tree as a condition on the machine.
 -- Assumes nothing.
-use Prim.Native.Nat.{ℕ, suc, _+_, _≤_, _<_}
+use Prim.Native.Nat.{ℕ, suc, _+_, _^_, _≤_, _<_}
 use native.Mathlib.Nat.{zero-add, suc-add}
 use native.Mathlib.Omega.{arith}
 use mathlib.Core.Path.{_≡_, refl, ap, _∙_}
 use mathlib.Core.Logic.{_≢_}
-use mathlib.Core.Bool.{Bool, true, false, cond}
+use mathlib.Core.Bool.{Bool, true, false}
 use mathlib.Core.List.{List, [], _∷_, _++_}
 use mathlib.Core.Option.{Option, some}
 use lib.Dec.{eqb, T, eqb-refl, eqb→eq}
@@ -18,10 +18,18 @@ use Rattle.vm.specs.RuntimeErr.{RuntimeErr}
 use Rattle.vm.specs.Operation.{Got, Ok, Err, Slots, Names, put}
 use Rattle.vm.specs.Machine.{Machine, Goes, Stops, loads, stores, execute, perform, step}
 use Rattle.walk.specs.Walk.{Walked, Fine, Halt, after, _>>=_, gets, makes}
-use Rattle.walk.specs.Simulation.Small.{SmallValue, Smalls, Good, ok}
+use Rattle.walk.specs.Parts.{nothing-pushed}
+use Rattle.walk.specs.Small.{SmallValue, Smalls, Good, ok}
 
 abbrev pub Regs : Type 0
 Regs = Slots Value
+
+-- arrays whose sizes and indexes are exact as floats
+abbrev pub ExactValue : Value → Type 0
+ExactValue v = SmallValue (2 ^ 53) v
+
+abbrev pub Exact : Names → Type 0
+Exact e = Smalls (2 ^ 53) e
 
 -- ---- what is put is read back, and the rest is as it was
 
@@ -87,13 +95,11 @@ split (Reg ∷ c) (reg h) = let s = split c h in record { mid = s .mid; was = s 
 split (Below ∷ c) (below h) = let s = split c h in record { mid = s .mid; was = s .was; left = below (s .left); right = s .right }
 split (Push w i ∷ c) (more f g h) = let s = split c h in record { mid = s .mid; was = s .was; left = more f g (s .left); right = s .right }
 
--- where a register before another is asked for, nothing is pushed
+unasked : {P : Program} {p a q b : ℕ} {es : List Event} → At P p a (Below ∷ es) q b → At P p a es q b
+unasked (below h) = h
+
 pub past : {P : Program} {p a q b : ℕ} (r : ℕ) {es : List Event} → At P p a (before r ++ es) q b → At P p a es q b
-past {P} {p} {a} {q} {b} r {es} h = go (eqb r 0) h
-  where
-    go : (t : Bool) → At P p a (cond t (Below ∷ []) [] ++ es) q b → At P p a es q b
-    go true (below h) = h
-    go false h = h
+past {P} {p} {a} {q} {b} r {es} h = nothing-pushed (λ c. At P p a (c ++ es) q b → At P p a es q b) r (λ g. unasked g) (λ g. g) h
 
 -- ---- what comes of a tree, as a condition on the machine: after the steps it is at place q with the names, and `post` holds of names, value and
 -- registers; or after the steps the next one stops, with the names as they are
@@ -104,14 +110,14 @@ pub data Sim {A : Type 0} (P : Program) (m : Machine) (q : ℕ) (post : Names �
 
 -- after an expression: register s holds the value, those below r are as they were
 pub record Holds (s r : ℕ) (rs : Regs) (e : Names) (v : Value) (rs₁ : Regs) : Type 0 where
-  pub smalls : Smalls e
-  pub small : SmallValue v
+  pub smalls : Exact e
+  pub small : ExactValue v
   pub value : rs₁ s ≡ some v
   pub keep : Keep r rs rs₁
 
 -- after a statement
 pub record Kept (r : ℕ) (rs : Regs) (e : Names) (u : Unit {0}) (rs₁ : Regs) : Type 0 where
-  pub smalls : Smalls e
+  pub smalls : Exact e
   pub keep : Keep r rs rs₁
 
 pub kept-after : {r s : ℕ} {rs rs₁ : Regs} → Keep r rs rs₁ → r ≤ s → (e : Names) (u : Unit {0}) (rs₂ : Regs) → Kept s rs₁ e u rs₂ → Kept r rs e u rs₂
@@ -137,14 +143,14 @@ module _ {P : Program} where
   sim-weaken (halt s h) k = halt s h
 
   -- an instruction that loads register s, also called t
-  pub sim-load : {p a q b n : ℕ} {w : Place} {o : Op} (s t r : ℕ) {e : Names} (rs : Regs) (g : Got Value) → At P p a (load w n o) q b → r ≤ s → t ≡ s → Smalls e → Good SmallValue g
+  pub sim-load : {p a q b n : ℕ} {w : Place} {o : Op} (s t r : ℕ) {e : Names} (rs : Regs) (g : Got Value) → At P p a (load w n o) q b → r ≤ s → t ≡ s → Exact e → Good ExactValue g
       → execute P (mk P p e rs) o ≡ loads (mk P p e rs) s g → Sim P (mk P p e rs) q (Holds t r rs) (gets e g)
   sim-load {p} s t r {e} rs (Ok v) (reg (more f _ here)) l z h (ok i) k = done (move (step-at P p e rs f ∙ k) stay)
       (record { smalls = h; small = i; value = ap (put rs s (some v)) z ∙ put-same rs s (some v); keep = λ j z. put-other rs s (some v) j (omega arith) })
   sim-load {p} s t r {e} rs (Err d) (reg (more f _ here)) l z h i k = halt stay (step-at P p e rs f ∙ k)
 
   -- an instruction that makes new names
-  pub sim-store : {p a q b n : ℕ} {w : Place} {o : Op} (r : ℕ) (e : Names) (rs : Regs) (g : Got Names) → At P p a (push w n o ∷ []) q b → Good Smalls g
+  pub sim-store : {p a q b n : ℕ} {w : Place} {o : Op} (r : ℕ) (e : Names) (rs : Regs) (g : Got Names) → At P p a (push w n o ∷ []) q b → Good Exact g
       → execute P (mk P p e rs) o ≡ stores (mk P p e rs) g → Sim P (mk P p e rs) q (Kept r rs) (makes e g)
   sim-store {p} r e rs (Ok e₁) (more f _ here) (ok i) k = done (move (step-at P p e rs f ∙ k) stay) (record { smalls = i; keep = λ j z. refl })
   sim-store {p} r e rs (Err d) (more f _ here) i k = halt stay (step-at P p e rs f ∙ k)

@@ -9,7 +9,6 @@ use mathlib.Core.List.{List, [], _∷_, _++_}
 use mathlib.Core.Option.{Option, some}
 use lib.Dec.{ltb, lt→ltb, ltb→lt}
 use lib.ListN.{length}
-use lib.Ieee.{lt}
 use Rattle.numeric.specs.Whole.{whole, whole-add, whole-lt}
 use Rattle.sifv.specs.Value.{Value, One, Num, Bl}
 use Rattle.opc.specs.Op.{Lt, Jmpt, Ldn, Ldav, Str, Incrr, Binary, JmpCnd}
@@ -20,8 +19,8 @@ use Rattle.vm.specs.RuntimeErr.{InvalidIncr}
 use Rattle.vm.specs.Operation.{Ok, Names, put, held, array, incr, binary, item}
 use Rattle.vm.specs.Machine.{Goes, full, loads, branch, step}
 use Rattle.walk.specs.Walk.{Walked, pass, passes, sized, walkFor}
-use Rattle.walk.specs.Simulation.Small.{Small, unset, single, entries, items as arrays, Smalls, small-put, good-item}
-use Rattle.walk.specs.Simulation.Logic.{Regs, eq-true, eq-false, put-same, put-other, Keep, mk, Run, stay, move, At, here, reg, more, split, Sim, done, halt, Kept, kept-after, sim-after, sim-bind, sim-weaken, sim-load, step-at}
+use Rattle.walk.specs.Small.{Small, unset, single, entries, items as arrays, small-put, good-item}
+use Rattle.walk.specs.Simulation.Logic.{Exact, Regs, eq-true, eq-false, put-same, put-other, Keep, mk, Run, stay, move, At, here, reg, more, split, Sim, done, halt, Kept, kept-after, sim-after, sim-bind, sim-weaken, sim-load, step-at}
 use Rattle.walk.specs.Simulation.Stmts.{Does}
 
 -- the number k in a register or under a name
@@ -59,7 +58,7 @@ loop w i v y r q c b m l = push w l (Ldn r i) ∷ (Reg ∷ (push w l (Ldav y r (
 
 -- after the pass at index k of s
 record Passed (i r q k s : ℕ) (rs : Regs) (e : Names) (u : Unit {0}) (rs₁ : Regs) : Type 0 where
-  smalls : Smalls e
+  smalls : Exact e
   index : e i ≡ num (suc k)
   size : rs₁ q ≡ num s
   keep : Keep r rs rs₁
@@ -82,7 +81,7 @@ module _ {P : Program} (w : Place) (i v y r q c m l : ℕ) (apart : r < q) (behi
       stay)))
 
   sim-pass : {p a z d : ℕ} (b : List Event) (f : Names → Walked (Unit {0})) (k s x : ℕ) → Does P (q + 2) l b f → At P p a (loop w i v y r q c b m l) z d → labelAt (P .code) l ≡ some p
-      → Back p z (ltb (suc k) s) x → q + 1 < c → k < 2 ^ 53 → s ≤ 2 ^ 53 → (e : Names) (rs : Regs) → Smalls e → e i ≡ num k → rs q ≡ num s
+      → Back p z (ltb (suc k) s) x → q + 1 < c → k < 2 ^ 53 → s ≤ 2 ^ 53 → (e : Names) (rs : Regs) → Exact e → e i ≡ num k → rs q ≡ num s
       → Sim P (mk P p e rs) x (Passed i r q k s rs) (pass f i v y k e)
   sim-pass {p} b f k s x body (more f₁ _ (reg (more f₂ g₂ (more f₃ _ h)))) t back z hk hs e rs small gi gs =
       let rs₁ : Regs = put rs r (num k) in
@@ -99,7 +98,7 @@ module _ {P : Program} (w : Place) (i v y r q c m l : ℕ) (apart : r < q) (behi
 
   -- the passes from index k on, `rest` of them after the first
   sim-passes : {p a z d : ℕ} (b : List Event) (f : Names → Walked (Unit {0})) (s : ℕ) → Does P (q + 2) l b f → At P p a (loop w i v y r q c b m l) z d → labelAt (P .code) l ≡ some p
-      → q + 1 < c → s ≤ 2 ^ 53 → (rest k : ℕ) → pred s ≡ k + rest → (e : Names) (rs : Regs) → Smalls e → e i ≡ num k → rs q ≡ num s
+      → q + 1 < c → s ≤ 2 ^ 53 → (rest k : ℕ) → pred s ≡ k + rest → (e : Names) (rs : Regs) → Exact e → e i ≡ num k → rs q ≡ num s
       → Sim P (mk P p e rs) z (Kept r rs) (passes f i v y rest k e)
   sim-passes b f s body h t x hs zero k g e rs small gi gs =
       sim-weaken (sim-pass b f k s _ body h t (rw (ltb-false (suc k) s (omega arith)) leave) x (omega arith) hs e rs small gi gs) λ e₁ u rs₁ o. record { smalls = o .smalls; keep = o .keep }
@@ -109,22 +108,22 @@ module _ {P : Program} (w : Place) (i v y r q c m l : ℕ) (apart : r < q) (behi
 
 module _ {P : Program} where
   -- the size, read once
-  sim-size : {p z : ℕ} (y r q : ℕ) → r ≤ q → (f : ℕ → Walked (Unit {0})) (e : Names) (rs : Regs) {o : Option Value} → Small o
+  sim-size : {p z : ℕ} (y r q : ℕ) → r ≤ q → (f : ℕ → Walked (Unit {0})) (e : Names) (rs : Regs) {o : Option Value} → Small (2 ^ 53) o
       → step P (mk P p e rs) ≡ loads (mk P p e rs) q (held y o (λ v. array y v (λ l. Ok (One (Num (whole (length l)))))))
       → ((s : ℕ) → s ≤ 2 ^ 53 → Sim P (mk P (suc p) e (put rs q (num s))) z (Kept r (put rs q (num s))) (f s)) → Sim P (mk P p e rs) z (Kept r rs) (sized e (held y o (λ v. array y v (λ l. Ok l))) f)
   sim-size y r q l f e rs unset h g = halt stay h
   sim-size y r q l f e rs single h g = halt stay h
   sim-size y r q l f e rs entries h g = halt stay h
-  sim-size y r q l f e rs (arrays {l = t} z) h g = sim-after (move h stay) (sim-weaken (g (length t) z) (kept-after (λ k d. put-other rs q (num (length t)) k (omega arith)) (le-refl r)))
+  sim-size y r q l f e rs (arrays {a = t} z) h g = sim-after (move h stay) (sim-weaken (g (length t) z) (kept-after (λ k d. put-other rs q (num (length t)) k (omega arith)) (le-refl r)))
 
   pub does-for : (w : Place) (i v y r q c n m : ℕ) (b : List Event) (f : Names → Walked (Unit {0})) → r < q → q + 1 < c → Does P (q + 2) (n + 1) b f
       → Does P r n (lowerFor w n i v y r q c [] b m) (walkFor f i v (OverName y))
   does-for w i v y r q c n m b f apart z body = record { does = go }
     where
-      go : {p a t d : ℕ} → At P p a (lowerFor w n i v y r q c [] b m) t d → a ≤ n → (e : Names) (rs : Regs) → Smalls e → Sim P (mk P p e rs) t (Kept r rs) (walkFor f i v (OverName y) e)
+      go : {p a t d : ℕ} → At P p a (lowerFor w n i v y r q c [] b m) t d → a ≤ n → (e : Names) (rs : Regs) → Exact e → Sim P (mk P p e rs) t (Kept r rs) (walkFor f i v (OverName y) e)
       go {p} (reg (more f₁ _ (reg (more f₂ _ (more f₃ g₃ h))))) l e rs small =
           let e₀ : Names = put e i (num 0) in
-          let small₀ : Smalls e₀ = small-put i small single in
+          let small₀ : Exact e₀ = small-put i small single in
           let t : labelAt (P .code) (n + 1) ≡ some (suc (suc p)) = g₃ (omega arith) in
           sim-after (move {m₁ = mk P (suc p) e₀ rs} (step-at P p e rs f₁) stay)
           (sim-size y r q (omega arith) (λ s. passes f i v y (pred s) 0 e₀) e₀ rs (small₀ .small y) (step-at P (suc p) e₀ rs f₂) λ s hs.

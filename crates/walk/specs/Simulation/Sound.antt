@@ -5,24 +5,27 @@ use native.Mathlib.Omega.{arith}
 use mathlib.Core.Path.{_≡_, refl, sym, ap, ap₂, _∙_, subst}
 use mathlib.Core.Logic.{_≢_}
 use mathlib.Core.Bool.{Bool, true, false, cond, not, _&&_}
-use mathlib.Core.List.{List, [], _++_}
+use mathlib.Core.List.{List}
 use mathlib.Core.Option.{Option, none, some}
 use lib.Dec.{T, eqb}
-use lib.ListN.{length, getElem?}
+use lib.ListN.{getElem?}
+use mir.Facts.{and-yes}
 use Rattle.sifv.specs.Value.{One, Null}
 use Rattle.opc.specs.Op.{label}
 use Rattle.tables.specs.Tables.{Program, entered, labelAt}
 use Rattle.ast.specs.Tree.{OverName, OverCall, Stmt, Block, IfStmt, ForStmt, Return, ReturnExpr, ExprStmt, VarDecl, VarInit, FnDecl, Stmts, noStmts, moreStmts, Rest, Else, Elif}
-use Rattle.ast.specs.Plain.{plainExpr, plainStmt, plain, plainRest}
-use Rattle.compiler.specs.Lower.{Decl, Main, Place, Event, exprRegs, stmtRegs, stmtsRegs, stmtLabels, stmtsLabels, restLabels, orNop, inner, lowerExpr, lowerStmt, lowerStmts, lowerRest, top, lowerTree, refusal, pushed, programOf, lowered, decide, lower}
+use Rattle.ast.specs.Plain.{plainStmt, plain, plainRest}
+use Rattle.compiler.specs.Lower.{Main, Place, Event, exprRegs, stmtRegs, stmtsRegs, stmtLabels, stmtsLabels, restLabels, orNop, inner, lowerExpr, lowerStmt, lowerStmts, lowerRest, top, lowerTree, refusal, pushed, programOf, lowered, decide, lower}
 use Rattle.vm.specs.RuntimeErr.{RuntimeErr}
 use Rattle.vm.specs.Operation.{Names, empty}
 use Rattle.vm.specs.Machine.{Machine, Stops, step, initial}
 use Rattle.walk.specs.Walk.{Walked, Fine, Halt, orOne, walkStmt, walkStmts, walkRest, walk}
 use Rattle.walk.specs.Bound.{longestStmt, longest, longestRest}
-use Rattle.walk.specs.Simulation.Small.{single, unset}
+use Rattle.walk.specs.Parts.{arm-plain}
+use Rattle.walk.specs.Bounded.{plain-starts, plain-code}
+use Rattle.walk.specs.Small.{single, unset}
 use Rattle.walk.specs.Simulation.Logic.{Regs, eqb-same, eqb-other, mk, Run, At, here, reg, below, more, Sim, done, halt}
-use Rattle.walk.specs.Simulation.Labels.{both, InMain, main, in-inner, Mono, end, took, asked, then, Lays, skip, from, lays-mono, lays-stmt, lays-rest, lays-block}
+use Rattle.walk.specs.Simulation.Labels.{InMain, main, in-inner, Mono, end, took, asked, then, Lays, skip, from, lays-mono, lays-stmt, lays-rest, lays-block}
 use Rattle.walk.specs.Simulation.Exprs.{gives-expr}
 use Rattle.walk.specs.Simulation.Stores.{does-nil, does-constant, does-rhs, does-own}
 use Rattle.walk.specs.Simulation.Stmts.{Does, Closes, does-stores, does-seq, does-block, does-arm, exit-arm, closes-else}
@@ -35,13 +38,12 @@ module _ (P : Program) where
     sound : (s : Stmt) {w : Place} → InMain w → (n r : ℕ) → T (plainStmt s) → longestStmt s ≤ 2 ^ 53 → Does P r n (lowerStmt s w n r) (walkStmt s)
     sound (Block b) {w} h n r t z = does-block w b (sounds b h n r t z)
     sound (IfStmt c b k) {w} h n r t z =
-        let x = both (plainExpr c) (plain b && plainRest k) t in
-        let y = both (plain b) (plainRest k) (x .1) in
+        let x = arm-plain c b k t in
         let q = r + exprRegs c in
         let m = n + 1 + stmtsLabels b in
         let last = m + 1 + restLabels k in
         does-arm w n q m last (lowerExpr c w n r) (orNop b w (n + 1) (lowerStmts b w (n + 1) q)) (lowerRest k w (m + 1) (q + stmtsRegs b) last)
-        (gives-expr w n c r (x .0)) (does-block w b (sounds b h (n + 1) q (y .0) (omega arith))) (omega arith) (closes k h (m + 1) (q + stmtsRegs b) last refl (y .1) (omega arith))
+        (gives-expr w n c r (x .0)) (does-block w b (sounds b h (n + 1) q (x .1) (omega arith))) (omega arith) (closes k h (m + 1) (q + stmtsRegs b) last refl (x .2) (omega arith))
     sound (ForStmt i v (OverName a) b) {w} h n r t z =
         let q = suc r + 0 in
         does-for w i v a r q (q + 2 + stmtsRegs b) n (n + 1 + stmtsLabels b) (orNop b (inner w) (n + 1) (lowerStmts b (inner w) (n + 1) (q + 2))) (λ e. orOne b e (walkStmts b e))
@@ -57,22 +59,21 @@ module _ (P : Program) where
     sounds : (k : Stmts) {w : Place} → InMain w → (n r : ℕ) → T (plain k) → longest k ≤ 2 ^ 53 → Does P r n (lowerStmts k w n r) (walkStmts k)
     sounds noStmts h n r t z = does-stores does-nil
     sounds (moreStmts s k) h n r t z =
-        let x = both (plainStmt s) (plain k) t in
+        let x = and-yes (plainStmt s) (plain k) t in
         does-seq (sound s h n r (x .0) (omega arith)) (lays-mono (lays-stmt s h n r (x .0))) (omega arith) (sounds k h (n + stmtLabels s) (r + stmtRegs s) (x .1) (omega arith))
 
     closes : (k : Rest) {w : Place} → InMain w → (n r last : ℕ) → n + restLabels k ≡ last → T (plainRest k) → longestRest k ≤ 2 ^ 53 → Closes P r n last (lowerRest k w n r last) (walkRest k)
     closes (Else k) h n r last g t z = closes-else h k n r last t g (lays-rest (Else k) h n r last g t) (sounds k h n r t z)
     closes (Elif c b k) {w} h n r last g t z =
-        let x = both (plainExpr c) (plain b && plainRest k) t in
-        let y = both (plain b) (plainRest k) (x .1) in
+        let x = arm-plain c b k t in
         let q = r + exprRegs c in
         let m = n + 1 + stmtsLabels b in
         let B = orNop b w (n + 1) (lowerStmts b w (n + 1) q) in
         let K = lowerRest k w (m + 1) (q + stmtsRegs b) last in
-        let f = closes k h (m + 1) (q + stmtsRegs b) last (omega arith) (y .1) (omega arith) in
+        let f = closes k h (m + 1) (q + stmtsRegs b) last (omega arith) (x .2) (omega arith) in
         record {
           lays = lays-rest (Elif c b k) h n r last g t;
-          does = does-arm w n q m last (lowerExpr c w n r) B K (gives-expr w n c r (x .0)) (does-block w b (sounds b h (n + 1) q (y .0) (omega arith))) (omega arith) f;
+          does = does-arm w n q m last (lowerExpr c w n r) B K (gives-expr w n c r (x .0)) (does-block w b (sounds b h (n + 1) q (x .1) (omega arith))) (omega arith) f;
           exit = λ i l. exit-arm w n q m last (lowerExpr c w n r) B K f i;
         }
 
@@ -119,12 +120,6 @@ stands {a} P p f g t (then {i = i} {es = es} main h m) =
 
 -- ---- the whole
 
-no-declarations : {a b : ℕ} {es : List Event} → Mono a es b → pushed Decl es ≡ []
-no-declarations (end h) = refl
-no-declarations (took m) = no-declarations m
-no-declarations (asked m) = no-declarations m
-no-declarations (then main h m) = no-declarations m
-
 table : {n : ℕ} {es : List Event} → Lays 0 es n → (l : ℕ) → labelAt (pushed Main es) l ≡ entered (pushed Main es) l 0 0 (cond (eqb l 0) (some 0) none)
 table (skip x) l = table x l
 table (from main m) l = refl
@@ -160,8 +155,8 @@ script t h z =
     let P = programOf es in
     let l = lays-block t {w = top} main 0 0 h in
     let m = lays-mono l in
-    let c : P .code ≡ pushed Main es = ap (λ d. d ++ pushed Main es) (no-declarations m) in
-    let start : P .codeStart ≡ 0 = ap length (no-declarations m) in
+    let c = plain-code t h in
+    let start = plain-starts t h in
     let s = stands P 0 (λ x. cond (eqb x 0) (some 0) none) (λ k. ap (getElem? (P .code)) (zero-add k) ∙ ap (λ d. getElem? d k) c) (λ x. ap (λ d. labelAt d x) c ∙ table l x) m in
     let d = does-block top t (sounds P t {w = top} main 0 0 h z) .does (s .there) (le-refl 0) empty empty (record { small = λ x. unset }) in
     record { begins = λ g. begins-with l (sym (ap₂ getElem? c start) ∙ g); does = subst (λ x. Final P (mk P x empty empty) (walk t)) (sym start) (final (s .over) d) }

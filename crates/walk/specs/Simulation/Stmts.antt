@@ -17,15 +17,15 @@ use Rattle.compiler.specs.Lower.{Place, Event, Push, prev, elseLabels, stmtsLab
 use Rattle.vm.specs.Operation.{Got, Ok, Err, Names, truth}
 use Rattle.vm.specs.Machine.{jump, branch, step}
 use Rattle.walk.specs.Walk.{Walked, _>>=_, steps, orOne, choose}
-use Rattle.walk.specs.Simulation.Small.{Smalls, ok}
-use Rattle.walk.specs.Simulation.Logic.{Regs, mk, Run, stay, move, At, here, more, split, Sim, done, halt, Kept, kept-after, sim-after, sim-bind, sim-weaken, step-at}
+use Rattle.walk.specs.Small.{ok}
+use Rattle.walk.specs.Simulation.Logic.{Exact, Regs, mk, Run, stay, move, At, here, more, split, Sim, done, halt, Kept, kept-after, sim-after, sim-bind, sim-weaken, step-at}
 use Rattle.walk.specs.Simulation.Labels.{InMain, Mono, last-le, mono-stmts, Lays, at-head}
 use Rattle.walk.specs.Simulation.Exprs.{Gives}
 use Rattle.walk.specs.Simulation.Stores.{Stores, does-one}
 
 -- code from register r and label n on that does what f does
 pub record Does (P : Program) (r n : ℕ) (es : List Event) (f : Names → Walked (Unit {0})) : Type 0 where
-  pub does : {p a q b : ℕ} → At P p a es q b → a ≤ n → (e : Names) (rs : Regs) → Smalls e → Sim P (mk P p e rs) q (Kept r rs) (f e)
+  pub does : {p a q b : ℕ} → At P p a es q b → a ≤ n → (e : Names) (rs : Regs) → Exact e → Sim P (mk P p e rs) q (Kept r rs) (f e)
 
 -- the end of an If before place q: a jump to label l, and one step
 pub record Exit (P : Program) (l q : ℕ) : Type 0 where

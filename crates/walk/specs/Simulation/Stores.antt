@@ -7,6 +7,7 @@ use mathlib.Core.List.{List, [], _∷_, _++_, map}
 use mathlib.Core.Option.{some}
 use lib.Dec.{T}
 use lib.ListN.{length-map}
+use mir.Facts.{and-yes}
 use Rattle.sifv.specs.Value.{Value, One, Arr, Tab}
 use Rattle.opc.specs.Op.{Op, Stc, Str, Tbli}
 use Rattle.tables.specs.Tables.{Program}
@@ -18,29 +19,28 @@ use Rattle.vm.specs.Operation.{Got, Ok, Names, put, orNull, item, update, table
 use Rattle.vm.specs.Machine.{stores, execute}
 use Rattle.walk.specs.Walk.{Walked, _>>=_, steps, makes, walkItems, walkRhs, walkOwn}
 use Rattle.walk.specs.Bound.{longestExpr, longestRhs}
-use Rattle.walk.specs.Simulation.Small.{SmallValue, single, items, entries, Smalls, small-put, small-null, Good, ok, good-item, good-update, good-tabled}
-use Rattle.walk.specs.Simulation.Logic.{Regs, keep-trans, mk, stay, At, here, split, past, Sim, done, Kept, kept-after, sim-bind, sim-weaken, sim-load, sim-store}
-use Rattle.walk.specs.Simulation.Labels.{both}
+use Rattle.walk.specs.Small.{single, items, entries, small-put, small-null, Good, ok, good-item, good-update, good-tabled}
+use Rattle.walk.specs.Simulation.Logic.{Exact, ExactValue, Regs, keep-trans, mk, stay, At, here, split, past, Sim, done, Kept, kept-after, sim-bind, sim-weaken, sim-load, sim-store}
 use Rattle.walk.specs.Simulation.Exprs.{Gives, gives-expr}
 
 -- code from register r on that does what f does
 pub record Stores (P : Program) (r : ℕ) (es : List Event) (f : Names → Walked (Unit {0})) : Type 0 where
-  pub does : {p a q b : ℕ} → At P p a es q b → (e : Names) (rs : Regs) → Smalls e → Sim P (mk P p e rs) q (Kept r rs) (f e)
+  pub does : {p a q b : ℕ} → At P p a es q b → (e : Names) (rs : Regs) → Exact e → Sim P (mk P p e rs) q (Kept r rs) (f e)
 
 module _ {P : Program} where
-  sim-nil : {p a q b r : ℕ} → At P p a [] q b → (e : Names) (rs : Regs) → Smalls e → Sim P (mk P p e rs) q (Kept r rs) (steps 0 e)
+  sim-nil : {p a q b r : ℕ} → At P p a [] q b → (e : Names) (rs : Regs) → Exact e → Sim P (mk P p e rs) q (Kept r rs) (steps 0 e)
   sim-nil here e rs s = done stay (record { smalls = s; keep = λ k l. refl })
 
   pub does-nil : {r : ℕ} → Stores P r [] (λ e. steps 0 e)
   does-nil = record { does = λ h e rs s. sim-nil h e rs s }
 
   -- one instruction that makes new names of the names
-  pub does-one : {w : Place} {r n : ℕ} {o : Op} (g : Names → Got Names) → ((e : Names) → Smalls e → Good Smalls (g e))
+  pub does-one : {w : Place} {r n : ℕ} {o : Op} (g : Names → Got Names) → ((e : Names) → Exact e → Good Exact (g e))
       → ((p : ℕ) (e : Names) (rs : Regs) → execute P (mk P p e rs) o ≡ stores (mk P p e rs) (g e)) → Stores P r (push w n o ∷ []) (λ e. makes e (g e))
   does-one {r} g i k = record { does = λ {p} h e rs s. sim-store r e rs (g e) h (i e s) (k p e rs) }
 
   -- the value v to the name x
-  pub does-constant : {w : Place} {r n : ℕ} (v : Value) (x : ℕ) → SmallValue v → Stores P r (push w n (Stc v x) ∷ []) (λ e. steps 1 (put e x (some v)))
+  pub does-constant : {w : Place} {r n : ℕ} (v : Value) (x : ℕ) → ExactValue v → Stores P r (push w n (Stc v x) ∷ []) (λ e. steps 1 (put e x (some v)))
   does-constant v x i = does-one (λ e. Ok (put e x (some v))) (λ e s. ok (small-put x s i)) (λ p e rs. refl)
 
   does-seq : {r t : ℕ} {c d : List Event} {f g : Names → Walked (Unit {0})} → Stores P r c f → r ≤ t → Stores P t d g → Stores P r (c ++ d) (λ e. f e >>= λ e₁ u. g e₁)
@@ -67,7 +67,7 @@ module _ {P : Program} where
     does-items : (is : Items) (x r : ℕ) → T (plainItems is) → Stores P r (lowerItems is x w n r) (walkItems is x)
     does-items noItems x r t = does-nil
     does-items (moreItems k y is) x r t =
-        let z = both (plainExpr y) (plainItems is) t in
+        let z = and-yes (plainExpr y) (plainItems is) t in
         let q = r + exprRegs y in
         let g = gives-expr w n y r (z .0) in
         let d = does-items is x q (z .1) in
@@ -109,7 +109,7 @@ module _ {P : Program} where
     does-own (UnaryExpr o a) r t z = does-drop (gives-expr w n (UnaryExpr o a) r t)
     does-own (VarAssign x k) r t z = does-rhs k x r t z
     does-own (ArrayMut x i v) r t z =
-        let y = both (plainExpr i) (plainExpr v) t in
+        let y = and-yes (plainExpr i) (plainExpr v) t in
         let q = r + exprRegs v in
         let g = gives-expr w n v r (y .1) in
         let d = gives-expr w n i q (y .0) in
