@@ -1,2 +1,4 @@
 pub mod Token
 pub mod Lower
+pub mod Within
+pub mod Accepted

@@ -1,4 +1,5 @@
 pub mod Calls
 pub mod Text
 pub mod Listing
+pub mod CallLaws
 pub mod Scripts

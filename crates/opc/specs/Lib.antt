@@ -1,2 +1,3 @@
 pub mod Op
 pub mod Record
+pub mod RecordLaws

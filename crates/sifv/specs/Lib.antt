@@ -1,2 +1,4 @@
 pub mod Value
 pub mod Slot
+pub mod Layout
+pub mod SlotLaws

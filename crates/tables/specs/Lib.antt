@@ -1,2 +1,4 @@
 pub mod Tables
 pub mod ProgramBytes
+pub mod LabelLaws
+pub mod ProgramLaws

@@ -2,3 +2,6 @@ pub mod RuntimeErr
 pub mod Operation
 pub mod Machine
 pub mod StateBytes
+pub mod RunLaws
+pub mod StateLaws
+pub mod Kept
