@@ -1,0 +1,47 @@
+//! The proved leaves, called as C functions, beside Rust: see README.md in this folder.
+
+mod numbers;
+#[allow(dead_code)]
+#[path = "../oracle/src/rng.rs"]
+mod rng;
+
+use std::hint::black_box;
+use std::process::ExitCode;
+use std::time::Instant;
+
+fn main() -> ExitCode {
+    let args: Vec<String> = std::env::args().skip(1).collect();
+    let words: Vec<&str> = args.iter().map(String::as_str).collect();
+    let done = match words.as_slice() {
+        ["check"] => numbers::compare(2024, 2_000_000),
+        ["time"] => time(),
+        _ => Err(String::from("check or time")),
+    };
+    match done {
+        Ok(()) => ExitCode::SUCCESS,
+        Err(why) => {
+            eprintln!("compare: {why}");
+            ExitCode::FAILURE
+        }
+    }
+}
+
+/// Nanoseconds of one call of f, over all items, so many times.
+fn nanoseconds<T: Copy, R>(items: &[T], turns: usize, f: impl Fn(T) -> R) -> f64 {
+    let start = Instant::now();
+    for _ in 0..turns {
+        for &item in items {
+            black_box(f(black_box(item)));
+        }
+    }
+    start.elapsed().as_nanos() as f64 / (turns * items.len()) as f64
+}
+
+fn time() -> Result<(), String> {
+    for (what, pairs) in numbers::timed(7) {
+        let ours = nanoseconds(&pairs, 500, |(a, b)| numbers::modu(a, b));
+        let rust = nanoseconds(&pairs, 500, |(a, b)| a % b);
+        println!("remainder, {what}: {ours:.1} ns, Rust {rust:.1} ns, ratio {:.2}", ours / rust);
+    }
+    Ok(())
+}

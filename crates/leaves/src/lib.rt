@@ -1,0 +1,34 @@
+// The leaves as C functions: compare/ calls them beside Rust.
+ghost use mathlib.Core.Path.{_≡_};
+ghost use lib.Ieee.{binary64, ofBits};
+ghost use Rattle.numeric.specs.Index.{indexOf};
+ghost use Rattle.numeric.specs.Patterns.{bitsOf};
+ghost use Rattle.numeric.specs.Remainder as Rule;
+
+#[no_mangle]
+pub extern "C" fn leaf_index_of(x: f64) -> u64
+    ensures { λ r. ⌜ r ≡ indexOf x ⌝ }
+{
+    numeric::index_of(x)
+}
+
+#[no_mangle]
+pub extern "C" fn leaf_bits_of(x: f64) -> u64
+    ensures { λ r. ⌜ r ≡ bitsOf x ⌝ }
+{
+    numeric::bits_of(x)
+}
+
+#[no_mangle]
+pub extern "C" fn leaf_from_bits(n: u64) -> f64
+    ensures { λ r. ⌜ r ≡ ofBits binary64 n ⌝ }
+{
+    numeric::from_bits(n)
+}
+
+#[no_mangle]
+pub extern "C" fn leaf_modu(a: f64, b: f64) -> f64
+    ensures { λ r. ⌜ r ≡ Rule.modu a b ⌝ }
+{
+    numeric::modu(a, b)
+}
