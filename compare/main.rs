@@ -1,19 +1,29 @@
 //! The proved leaves, called as C functions, beside Rust: see README.md in this folder.
 
+mod files;
 mod numbers;
+#[allow(dead_code)]
+#[path = "../oracle/src/reader.rs"]
+mod reader;
 #[allow(dead_code)]
 #[path = "../oracle/src/rng.rs"]
 mod rng;
+#[allow(dead_code)]
+#[path = "../oracle/src/tree.rs"]
+mod tree;
 
 use std::hint::black_box;
 use std::process::ExitCode;
 use std::time::Instant;
 
+/// From the repository's root.
+const CASES: &str = "cases/cases.bin";
+
 fn main() -> ExitCode {
     let args: Vec<String> = std::env::args().skip(1).collect();
     let words: Vec<&str> = args.iter().map(String::as_str).collect();
     let done = match words.as_slice() {
-        ["check"] => numbers::compare(2024, 2_000_000),
+        ["check"] => numbers::compare(2024, 2_000_000).and_then(|()| files::compare(CASES, 2024, 500_000)),
         ["time"] => time(),
         _ => Err(String::from("check or time")),
     };
@@ -42,6 +52,11 @@ fn time() -> Result<(), String> {
         let ours = nanoseconds(&pairs, 500, |(a, b)| numbers::modu(a, b));
         let rust = nanoseconds(&pairs, 500, |(a, b)| a % b);
         println!("remainder, {what}: {ours:.1} ns, Rust {rust:.1} ns, ratio {:.2}", ours / rust);
+    }
+    for file in files::timed(CASES)? {
+        let ours = nanoseconds(&[file.as_slice()], 20_000, files::ours) / 1000.0;
+        let rust = nanoseconds(&[file.as_slice()], 2_000, files::theirs) / 1000.0;
+        println!("reading {} bytes: {ours:.2} us, the oracle's reader {rust:.2} us, ratio {:.2}", file.len(), ours / rust);
     }
     Ok(())
 }

@@ -10,3 +10,6 @@ pub mod Sound
 pub mod Complete
 pub mod Entries
 pub mod Reading
+pub mod Room
+pub mod Pass
+pub mod Answer

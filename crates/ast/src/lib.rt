@@ -1,4 +1,80 @@
+// The tree file (document 01, "The tree file"): the refusals 1 to 5.
+mod bodies;
+mod contents;
+mod structure;
+mod texts;
+
+ghost use mathlib.Core.Path.{_≡_};
+ghost use Prim.Native.Nat.{_*_, _≤_};
+ghost use lib.ListN.{length, drop};
+ghost use Rattle.ast.specs.File.{sum, readTree};
+ghost use Rattle.ast.specs.Room.{Room};
+ghost use Rattle.ast.specs.Answer.{answerOf, partsAnswer, bodiesAnswer};
+
 // Limits of a tree file (document 01, refusals 2 and 4).
 pub const NODES: usize = 1024;
 
 pub const TEXTS: usize = 64;
+
+// The checks of the bodies: texts (3), fields (5), structure (4). total is the size of the texts.
+fn read_bodies(count: u64, lengths: &[u8], entries: &[u8], total: usize, bodies: &[u8]) -> u64
+    requires { ⌜ (count ≤ 64) × (1 ≤ length (now lengths)) × (length (now lengths) ≤ 64) × (length (now entries) ≤ 2048) ⌝ }
+    requires { ⌜ (total ≡ sum (now lengths)) × (total ≤ length (now bodies)) × Room (now entries) (drop total (now bodies)) ⌝ }
+    ensures { λ r. ⌜ r ≡ bodiesAnswer count (now (lengths .entry)) (now (entries .entry)) (now (bodies .entry)) ⌝ }
+{
+    if !texts::texts_ok(lengths, total, bodies) {
+        return 3;
+    }
+    if !bodies::fields_ok(count, entries, &bodies[total..]) {
+        return 5;
+    }
+    if !structure::structure_ok(entries, &bodies[total..]) {
+        return 4;
+    }
+    0
+}
+
+// The checks after the contents' own: kinds (4), text lengths (3), the bodies' end (1), the bodies.
+fn read_parts(count: u64, lengths: &[u8], entries: &[u8], nodes: u64, bodies: &[u8]) -> u64
+    requires { ⌜ (count ≤ 64) × (1 ≤ length (now lengths)) × (length (now lengths) ≤ 64) × (length (now entries) ≤ 2048) × (length (now entries) ≡ 2 * nodes) ⌝ }
+    ensures { λ r. ⌜ r ≡ partsAnswer count (now (lengths .entry)) (now (entries .entry)) (now (bodies .entry)) ⌝ }
+{
+    if !contents::kinds_ok(entries) {
+        return 4;
+    }
+    if !contents::lengths_ok(lengths) {
+        return 3;
+    }
+    let total = bodies::text_bytes(lengths);
+    let size = total + bodies::node_bytes(entries);
+    if size != bodies.len() {
+        return 1;
+    }
+    read_bodies(count, lengths, entries, total, bodies)
+}
+
+// The number of the first refusal in document 01's order of checks, or 0: the file holds a tree.
+pub fn read(file: &[u8]) -> u64
+    ensures { λ r. ⌜ r ≡ answerOf (readTree (now (file .entry))) ⌝ }
+{
+    if file.len() < 3 {
+        return 1;
+    }
+    if !contents::counts_ok(file) {
+        return 2;
+    }
+    let count = contents::text_count(file);
+    let nodes = contents::node_count(file);
+    let first = 3 + count as usize;
+    let size = first + 2 * (nodes as usize);
+    if file.len() < size {
+        return 1;
+    }
+    read_parts(
+        count,
+        &file[3..first],
+        &file[first..size],
+        nodes,
+        &file[size..],
+    )
+}

@@ -151,7 +151,7 @@ length-lits : (ls : List Lit) → length (flatLits ls) ≡ length ls
 length-lits [] = refl
 length-lits (l ∷ ls) = ap suc (length-lits ls)
 
-length-names : (xs : List ℕ) → length (flatNames xs) ≡ length xs
+pub length-names : (xs : List ℕ) → length (flatNames xs) ≡ length xs
 length-names [] = refl
 length-names (x ∷ xs) = ap suc (length-names xs)
 

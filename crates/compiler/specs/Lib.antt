@@ -2,3 +2,4 @@ pub mod Token
 pub mod Lower
 pub mod Within
 pub mod Accepted
+pub mod ReadWithin

@@ -194,28 +194,31 @@ abbrev mutual
   pub lowerExpr : Expr → Place → ℕ → ℕ → List Event
   lowerExpr (Literal l) w n r = lowerLit w n l r
   lowerExpr (Name x) w n r = load w n (Ldn r x)
+  -- `binop`
   lowerExpr (BinaryExpr t a b) w n r =
       let q = r + argRegs a (exprRegs a) in
       let p = q + argRegs b (exprRegs b) in
       lowerArg w n a r (lowerExpr a w n r) ++ (before q ++ (lowerArg w n b q (lowerExpr b w n q) ++ (before p ++
       load w n (Binary (binKind t) (prev q) (prev p) p))))
+  -- `unop`
   lowerExpr (UnaryExpr t a) w n r =
       let q = r + argRegs a (exprRegs a) in
       lowerArg w n a r (lowerExpr a w n r) ++ (before q ++ load w n (Unary (unKind t) (prev q) q))
   lowerExpr (VarAssign x k) w n r = lowerRhs k x w n r
-  -- the value first, then the index
+  -- `arraymutexpr`: the value first, then the index
   lowerExpr (ArrayMut x i v) w n r =
       let q = r + exprRegs v in
       lowerExpr v w n r ++ (before q ++ (lowerExpr i w n q ++ (push w n (Upda x (prev (q + exprRegs i)) (prev q)) ∷ [])))
   lowerExpr (FnCall f ps) w n r = lowerCall w n f (lowerParams ps w n r) (count ps) (r + paramRegs ps)
 
-  -- a right side, assigned to x
+  -- `assign`: a right side, assigned to x
   pub lowerRhs : Rhs → ℕ → Place → ℕ → ℕ → List Event
   lowerRhs (Expression e) x w n r = lowerAssign w n x e (lowerExpr e w n r) (r + exprRegs e)
+  -- `match_table_assign`
   lowerRhs (Table is) x w n r = push w n (Stc (Tab []) x) ∷ lowerItems is x w n r
-  -- under its own name
+  -- `arraydecl`: under its own name
   lowerRhs (Array a ls) x w n r = push w n (Stc (Arr (map literal ls)) a) ∷ []
-  -- Ldav and no store
+  -- `arrayaccess`: Ldav and no store
   lowerRhs (ArrayAccess a i) x w n r = let q = r + exprRegs i in lowerExpr i w n r ++ load w n (Ldav a (prev q) q)
 
   pub lowerParams : Exprs → Place → ℕ → ℕ → List Event
@@ -277,20 +280,25 @@ declaring w = record { section = Decl; loops = w .loops }
 abbrev mutual
   pub lowerStmt : Stmt → Place → ℕ → ℕ → List Event
   lowerStmt (Block b) w n r = orNop b w n (lowerStmts b w n r)
+  -- `ifstmt`
   lowerStmt (IfStmt c b k) w n r =
       let q = r + exprRegs c in
       let m = n + 1 + stmtsLabels b in
       let end = m + 1 + restLabels k in
       lowerArm w n (lowerExpr c w n r) q (orNop b w (n + 1) (lowerStmts b w (n + 1) q)) m end ++ lowerRest k w (m + 1) (q + stmtsRegs b) end
+  -- `forstmt`
   lowerStmt (ForStmt i v s b) w n r =
       let q = suc r + sourceRegs s in
       lowerFor w n i v (sourceName s) r q (q + 2 + stmtsRegs b) (lowerSource s w n (suc r))
       (orNop b (inner w) (n + 1) (lowerStmts b (inner w) (n + 1) (q + 2))) (n + 1 + stmtsLabels b)
+  -- `ret`
   lowerStmt Return w n r = push w n FnRet ∷ []
   lowerStmt (ReturnExpr e) w n r = lowerExpr e w n r ++ (push w n (FnStackPush (prev (r + exprRegs e))) ∷ (push w n FnRet ∷ []))
   lowerStmt (ExprStmt e) w n r = lowerExpr e w n r
+  -- `vardecl`
   lowerStmt (VarDecl x) w n r = push w n (Stc (One Null) x) ∷ []
   lowerStmt (VarInit x k) w n r = lowerRhs k x w n r
+  -- `fndecl`: to the declarations; the parameters' registers first, then Fn and their pops
   lowerStmt (FnDecl f ps b) w n r =
       replicate (length ps) Reg ++ (push (declaring w) n (Fn f ps) ∷ (lowerPops ps (declaring w) n r ++
       orNop b (declaring w) n (lowerStmts b (declaring w) n (r + length ps))))
@@ -302,6 +310,7 @@ abbrev mutual
   -- from label n on; the label `end` is the last, where a Nop stands
   pub lowerRest : Rest → Place → ℕ → ℕ → ℕ → List Event
   lowerRest (Else k) w n r end = lowerStmts k w n r ++ (push w end Nop ∷ [])
+  -- `elif`
   lowerRest (Elif c b k) w n r end =
       let q = r + exprRegs c in
       let m = n + 1 + stmtsLabels b in

@@ -1,5 +1,5 @@
 -- Trees within the limits of document 01, "The tree file": text numbers below 64, at most 24 items in an array, at most 255 parameters and arguments.
--- Every tree that is read is one of them. Definitions only.
+-- Every tree that is read is one of them (ReadWithin). Definitions only.
 use Prim.Native.Nat.{ℕ, _≤_, _<_}
 use lib.Dec.{T}
 use mathlib.Core.Bool.{true}

@@ -39,7 +39,7 @@ module _ (file program : List ℕ) (t : Stmts) (p : Program) (er : readTree file
   pub lowers-back : decodeProgram (lowerCall file program .buffer) ≡ some p
   lowers-back = ap (λ (a : Answered). decodeProgram (a .buffer)) lowers ∙ lowered-back t p (drop (length (encodeProgram p)) program) i h el
 
-  lowers-size : programSize ≤ length (lowerCall file program .buffer)
+  pub lowers-size : programSize ≤ length (lowerCall file program .buffer)
   lowers-size =
       let n = program-length p (lowered-within t p i h el .0) in
       let m = length-over (encodeProgram p) program (omega arith) in

@@ -3,3 +3,7 @@ pub mod Text
 pub mod Listing
 pub mod CallLaws
 pub mod Scripts
+pub mod Accepting
+pub mod CallList
+pub mod ListLaws
+pub mod Demand3

@@ -4,6 +4,8 @@ ghost use lib.Ieee.{binary64, ofBits};
 ghost use Rattle.numeric.specs.Index.{indexOf};
 ghost use Rattle.numeric.specs.Patterns.{bitsOf};
 ghost use Rattle.numeric.specs.Remainder as Rule;
+ghost use Rattle.ast.specs.File.{readTree};
+ghost use Rattle.ast.specs.Answer.{answerOf};
 
 #[no_mangle]
 pub extern "C" fn leaf_index_of(x: f64) -> u64
@@ -31,4 +33,11 @@ pub extern "C" fn leaf_modu(a: f64, b: f64) -> f64
     ensures { λ r. ⌜ r ≡ Rule.modu a b ⌝ }
 {
     numeric::modu(a, b)
+}
+
+#[no_mangle]
+pub extern "C" fn leaf_read(file: &[u8]) -> u64
+    ensures { λ r. ⌜ r ≡ answerOf (readTree (now (file .entry))) ⌝ }
+{
+    ast::read(file)
 }

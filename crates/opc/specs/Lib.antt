@@ -1,3 +1,4 @@
 pub mod Op
 pub mod Record
 pub mod RecordLaws
+pub mod RecordRange

@@ -5,3 +5,4 @@ pub mod StateBytes
 pub mod RunLaws
 pub mod StateLaws
 pub mod Kept
+pub mod StopLaws

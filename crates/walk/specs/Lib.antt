@@ -7,3 +7,4 @@ pub mod Runs
 pub mod Theorems
 pub mod Simulation
 pub mod Bounded
+pub mod BoundSize

@@ -1,0 +1,97 @@
+//! The reader of tree files beside the oracle's, on stored cases, on damaged copies of them, and timed.
+
+use crate::reader;
+use crate::rng::Rng;
+use crate::tree::{num, program, set_array, Node, Parts};
+
+extern "C" {
+    fn leaf_read(file: *const u8, length: usize) -> u64;
+}
+
+/// The refusal number of the proved reader, or 0.
+pub fn ours(file: &[u8]) -> u64 {
+    unsafe { leaf_read(file.as_ptr(), file.len()) }
+}
+
+/// The refusal number of the oracle's reader, or 0.
+pub fn theirs(file: &[u8]) -> u64 {
+    reader::read(file).err().map_or(0, u64::from)
+}
+
+fn length(bytes: &[u8]) -> usize {
+    u32::from_be_bytes(bytes[..4].try_into().expect("four bytes")) as usize
+}
+
+/// The files of the stored cases, each with its listing.
+fn stored(bytes: &[u8]) -> Vec<(&[u8], &[u8])> {
+    let mut parts = Vec::new();
+    let mut rest = bytes;
+    while !rest.is_empty() {
+        let (part, behind) = rest[4..].split_at(length(rest));
+        parts.push(part);
+        rest = behind;
+    }
+    parts.chunks(2).map(|pair| (pair[0], pair[1])).collect()
+}
+
+/// What a listing says of the reader: 1 to 5 where the file is refused so, else 0.
+fn expected(listing: &[u8]) -> u64 {
+    match listing.strip_prefix(b"refused ") {
+        Some([digit @ b'1'..=b'5', ..]) => u64::from(digit - b'0'),
+        _ => 0,
+    }
+}
+
+/// A copy with a byte set, added or taken out, up to three times.
+fn damaged(file: &[u8], rng: &mut Rng) -> Vec<u8> {
+    let mut copy = file.to_vec();
+    for _ in 0..rng.between(1, 3) {
+        let at = rng.below(copy.len() + 1);
+        match rng.below(6) {
+            0 => copy.insert(at, rng.next() as u8),
+            1 if at < copy.len() => {
+                copy.remove(at);
+            }
+            2 => copy.truncate(at),
+            3 if at < copy.len() => copy[at] = copy[at].wrapping_add(1),
+            4 if at < copy.len() => copy[at] = rng.below(25) as u8,
+            _ if at < copy.len() => copy[at] = rng.next() as u8,
+            _ => copy.push(0),
+        }
+    }
+    copy
+}
+
+/// Compares the readers on every stored case and on so many damaged copies.
+pub fn compare(path: &str, seed: u64, count: u64) -> Result<(), String> {
+    let bytes = std::fs::read(path).map_err(|e| format!("{path}: {e}"))?;
+    let cases = stored(&bytes);
+    let mut differences = 0;
+    for (file, listing) in &cases {
+        differences += u64::from(ours(file) != expected(listing) || theirs(file) != expected(listing));
+    }
+    let mut answers = [0u64; 6];
+    for item in 0..count {
+        let mut rng = Rng::new(seed, item);
+        let copy = damaged(rng.pick(&cases).0, &mut rng);
+        let answer = ours(&copy);
+        answers[answer.min(5) as usize] += 1;
+        differences += u64::from(answer != theirs(&copy));
+    }
+    println!("files: {} stored cases, {count} damaged copies (accepted and refused 1 to 5: {answers:?}), {differences} differences", cases.len());
+    if differences == 0 { Ok(()) } else { Err(String::from("the readers differ")) }
+}
+
+/// Files to be timed: the largest accepted ones among the stored cases, and one near the largest that there is (1,015 nodes,
+/// arrays of numbers, 64 texts of 40 bytes).
+pub fn timed(path: &str) -> Result<Vec<Vec<u8>>, String> {
+    let bytes = std::fs::read(path).map_err(|e| format!("{path}: {e}"))?;
+    let mut files: Vec<Vec<u8>> = stored(&bytes).iter().filter(|c| expected(c.1) == 0).map(|c| c.0.to_vec()).collect();
+    files.sort_by_key(|f| std::cmp::Reverse(f.len()));
+    files.truncate(3);
+    let items = (0..24).map(|n| num(f64::from(n) + 0.5)).collect::<Vec<Node>>();
+    let root = program((1..=39).map(|name| set_array(name, items.clone())).collect());
+    let texts = (0..64).map(|n| if n == 0 { b"fortmp".to_vec() } else { format!("{n:040}").into_bytes() });
+    files.push(Parts::new(&root, texts.collect()).bytes());
+    Ok(files)
+}

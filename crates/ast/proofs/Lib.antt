@@ -1,0 +1,14 @@
+mod Samples
+mod Scan
+mod Table
+mod Compare
+mod Fields
+mod Rooms
+mod Cuts
+mod Agree
+mod Steps
+mod Keeping
+mod Keys
+mod Same
+mod Order
+mod Places

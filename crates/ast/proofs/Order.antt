@@ -1,0 +1,137 @@
+-- The order of the checks, and the parts of the file.
+-- Assumes nothing.
+use mathlib.Core.Path.{_≡_, refl, sym, ap, _∙_}
+use mathlib.Core.Bool.{Bool, true, false, _&&_}
+use mathlib.Core.List.{List}
+use Prim.Native.Nat.{ℕ, _+_, _*_, _≤_, _<_, _-_}
+use native.Mathlib.Omega.{arith}
+use lib.Dec.{leb, eqb}
+use lib.ListN.{length, take, drop, length-drop}
+use lib.Seq.{drop-drop}
+use borrow.Author.Tests.{leb-true, le-leb, lt-leb, eq-eqb, ne-eqb, eqb-true, eqb-false}
+use Rattle.lent.specs.Parts.{length-part}
+use Rattle.ast.specs.Tree.{Stmts}
+use Rattle.ast.specs.Structure.{Parsed, Fails, Takes, parse}
+use Rattle.ast.specs.File.{nodeCount, textCount, contentsSize, lengths, entries, sum, bodiesSize, nodes, nodesFrom, all, between, nodeOk, countsOk, kindsOk, lengthsOk, textsOk, fieldsOk, Read, require, structured, readTree}
+use Rattle.ast.specs.Answer.{answerOf, parsed, orElse, partsAnswer}
+use Rattle.ast.proofs.Rooms.{to-end}
+use Rattle.ast.proofs.Cuts.{part-end}
+
+-- one check
+pub refuses : (t : Bool) (n r : ℕ) → t ≡ false → n ≡ orElse t n r
+refuses t n r e = rw e
+
+pub passes : (t : Bool) (n r : ℕ) {x : ℕ} → t ≡ true → x ≡ r → x ≡ orElse t n r
+passes t n r e h = rw e h
+
+answer-require : (t : Bool) (n : ℕ) (r : Read) → answerOf (require t n r) ≡ orElse t n (answerOf r)
+answer-require true n r = refl
+answer-require false n r = refl
+
+answer-parse : (p : Parsed Stmts) → answerOf (structured p) ≡ orElse (parsed p) 4 0
+answer-parse Fails = refl
+answer-parse (Takes t ns) = refl
+
+-- ---- the counts
+
+pub record Counts (f : List ℕ) : Type 0 where
+  pub someNodes : 1 ≤ nodeCount f
+  pub fewNodes : nodeCount f ≤ 1024
+  pub someTexts : 1 ≤ textCount f
+  pub fewTexts : textCount f ≤ 64
+
+both-left : (a b : Bool) → (a && b) ≡ true → a ≡ true
+both-left true b e = refl
+both-left false b e = e
+
+both-right : (a b : Bool) → (a && b) ≡ true → b ≡ true
+both-right true b e = e
+both-right false b e = let z : _≡_ {A = ℕ} 0 1 = cc in absurd (omega arith)
+
+pub counts : (f : List ℕ) → countsOk f ≡ true → Counts f
+counts f e =
+    let n = both-left (between 1 1024 (nodeCount f)) (between 1 64 (textCount f)) e in
+    let t = both-right (between 1 1024 (nodeCount f)) (between 1 64 (textCount f)) e in
+    record {
+      someNodes = leb-true 1 (nodeCount f) (both-left (leb 1 (nodeCount f)) (leb (nodeCount f) 1024) n);
+      fewNodes = leb-true (nodeCount f) 1024 (both-right (leb 1 (nodeCount f)) (leb (nodeCount f) 1024) n);
+      someTexts = leb-true 1 (textCount f) (both-left (leb 1 (textCount f)) (leb (textCount f) 64) t);
+      fewTexts = leb-true (textCount f) 64 (both-right (leb 1 (textCount f)) (leb (textCount f) 64) t);
+    }
+
+-- ---- the file
+
+-- the bodies end where the file ends
+ends : (s b n : ℕ) → s ≤ n → eqb (s + b) n ≡ eqb b (n - s)
+ends s b n h = by-test (eqb b (n - s)) refl
+  where
+    by-test : (t : Bool) → eqb b (n - s) ≡ t → eqb (s + b) n ≡ eqb b (n - s)
+    by-test true e = eq-eqb (s + b) n (omega (arith, eqb-true b (n - s) e)) ∙ sym e
+    by-test false e = ne-eqb (s + b) n (λ q. eqb-false b (n - s) e (omega arith)) ∙ sym e
+
+after-contents : List ℕ → ℕ
+after-contents f = partsAnswer (textCount f) (lengths f) (entries f) (drop (contentsSize f) f)
+
+inner : (f : List ℕ) → contentsSize f ≤ length f
+    → answerOf (require (kindsOk f) 4 (require (lengthsOk f) 3 (require (eqb (contentsSize f + bodiesSize f) (length f)) 1 (require (textsOk f) 3 (require (fieldsOk f) 5 (structured (parse (nodes f))))))))
+    ≡ after-contents f
+unfolding after-contents
+inner f h =
+    let s = contentsSize f in
+    let t = sum (lengths f) in
+    let d : drop (s + t) f ≡ drop t (drop s f) = sym (drop-drop t s f) in
+    let e : eqb (s + bodiesSize f) (length f) ≡ eqb (bodiesSize f) (length (drop s f)) = ends s (bodiesSize f) (length f) h ∙ ap (eqb (bodiesSize f)) (sym (length-drop s f)) in
+    let r₅ : Read = structured (parse (nodes f)) in
+    let r₄ : Read = require (fieldsOk f) 5 r₅ in
+    let r₃ : Read = require (textsOk f) 3 r₄ in
+    let r₂ : Read = require (eqb (s + bodiesSize f) (length f)) 1 r₃ in
+    let r₁ : Read = require (lengthsOk f) 3 r₂ in
+    answer-require (kindsOk f) 4 r₁
+    ∙ ap (orElse (kindsOk f) 4) (answer-require (lengthsOk f) 3 r₂
+    ∙ ap (orElse (lengthsOk f) 3) (answer-require (eqb (s + bodiesSize f) (length f)) 1 r₃
+    ∙ ap (λ (u : Bool). orElse u 1 (answerOf r₃)) e
+    ∙ ap (orElse (eqb (bodiesSize f) (length (drop s f))) 1) (answer-require (textsOk f) 3 r₄
+    ∙ ap (orElse (textsOk f) 3) (answer-require (fieldsOk f) 5 r₅
+    ∙ ap (orElse (fieldsOk f) 5) (answer-parse (parse (nodes f)))
+    ∙ ap (λ (b : List ℕ). orElse (all (nodeOk (textCount f)) (nodesFrom (entries f) b)) 5 (orElse (parsed (parse (nodesFrom (entries f) b))) 4 0)) d))))
+
+module _ (f : List ℕ) where
+  pub too-short : length f < 3 → 1 ≡ answerOf (readTree f)
+  unfolding readTree
+  too-short h = rw (lt-leb 3 (length f) h)
+
+  pub wrong-counts : 3 ≤ length f → countsOk f ≡ false → 2 ≡ answerOf (readTree f)
+  unfolding readTree
+  wrong-counts h e = rw (le-leb 3 (length f) h, e)
+
+  pub cut-off : 3 ≤ length f → countsOk f ≡ true → length f < contentsSize f → 1 ≡ answerOf (readTree f)
+  unfolding readTree
+  cut-off h e l = rw (le-leb 3 (length f) h, e, lt-leb (contentsSize f) (length f) l)
+
+  pub goes-on : 3 ≤ length f → countsOk f ≡ true → contentsSize f ≤ length f → answerOf (readTree f) ≡ partsAnswer (textCount f) (lengths f) (entries f) (drop (contentsSize f) f)
+  unfolding readTree after-contents
+  goes-on h e l = rw (le-leb 3 (length f) h, e, le-leb (contentsSize f) (length f) l) (inner f l)
+
+  -- the parts as slices of the file
+  module _ {count nodes : ℕ} (ec : count ≡ textCount f) (en : nodes ≡ nodeCount f) (l : 3 + count + 2 * nodes ≤ length f) where
+    lengths-slice : take ((3 + count) - 3) (drop 3 f) ≡ lengths f
+    lengths-slice = rw (part-end 3 count, ec)
+
+    entries-slice : take ((3 + count + 2 * nodes) - (3 + count)) (drop (3 + count) f) ≡ entries f
+    entries-slice = rw (part-end (3 + count) (2 * nodes), ec, en)
+
+    bodies-slice : take (length f - (3 + count + 2 * nodes)) (drop (3 + count + 2 * nodes) f) ≡ drop (contentsSize f) f
+    bodies-slice = rw (to-end (3 + count + 2 * nodes) f, ec, en)
+
+    pub slices : 3 ≤ length f → countsOk f ≡ true → {r : ℕ}
+        → r ≡ partsAnswer count (take ((3 + count) - 3) (drop 3 f)) (take ((3 + count + 2 * nodes) - (3 + count)) (drop (3 + count) f)) (take (length f - (3 + count + 2 * nodes)) (drop (3 + count + 2 * nodes) f))
+        → r ≡ answerOf (readTree f)
+    slices h e {r} q =
+        let z : contentsSize f ≤ length f = rw (ec, en) at l in
+        sym (goes-on h e z ∙ sym (rw (lengths-slice, entries-slice, bodies-slice, ec) at q))
+
+    pub lengths-size : length (take ((3 + count) - 3) (drop 3 f)) ≡ count
+    lengths-size = rw (part-end 3 count) (length-part f 3 count (omega arith))
+
+    pub entries-size : length (take ((3 + count + 2 * nodes) - (3 + count)) (drop (3 + count) f)) ≡ 2 * nodes
+    entries-size = rw (part-end (3 + count) (2 * nodes)) (length-part f (3 + count) (2 * nodes) l)

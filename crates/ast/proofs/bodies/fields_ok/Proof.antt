@@ -1,0 +1,82 @@
+use Rattle.ast.proofs.Rooms.{at-place, to-end}
+use Rattle.ast.proofs.Scan.{turn, done, nodes-end}
+use Rattle.ast.specs.Room.{Room}
+use Rattle.ast.specs.File.{all, nodeOk, nodesFrom}
+use lib.ListN.{length, drop}
+use native.Mathlib.Omega.{arith}
+use borrow.Author.Needs.{needs}
+use Prim.Native.Nat.{_≤_, _-_}
+use mathlib.Core.Bool.{_&&_}
+use mathlib.Core.Path.{_≡_, refl, ap}
+use Rattle.ast.proofs.bodies.fields_ok.Statement.{statement}
+use Rattle.ast.proofs.bodies.fields_ok.Tie as tie
+
+abbrev Inv-loop : tie.InvT-loop
+Inv-loop texts entries bodies ok₀ at₀ i₀ ok at i = (at ≤ length bodies) × Room (drop i entries) (drop at bodies) × (all (nodeOk texts) (nodesFrom entries bodies) ≡ (ok && all (nodeOk texts) (nodesFrom (drop i entries) (drop at bodies))))
+
+abbrev μ-loop : tie.MeasureT-loop
+μ-loop texts entries bodies ok₀ at₀ i₀ ok at i = length entries - i
+
+loop-holds : tie.Need-loop-holds Inv-loop μ-loop
+loop-holds c = (omega arith, c .before .before .pre .1, refl)
+
+shared-slice-read-kind : tie.Need-shared-slice-read-kind Inv-loop μ-loop
+shared-slice-read-kind c = omega arith
+
+sub-field-ok : tie.Need-sub-field-ok Inv-loop μ-loop
+sub-field-ok c = omega arith
+
+part-field-ok-start : tie.Need-part-field-ok-start Inv-loop μ-loop
+part-field-ok-start c = omega arith
+
+part-field-ok-end : tie.Need-part-field-ok-end Inv-loop μ-loop
+part-field-ok-end c = omega arith
+
+field-ok-requires : tie.Need-field-ok-requires Inv-loop μ-loop
+field-ok-requires c κs =
+    let p = at-place (c .before .before .before .before .before .before .args .entries .now) (c .before .before .before .before .before .before .args .bodies .now) (c .before .before .before .loop .i) (c .before .before .before .loop .at) (c .before .before .before .loop .inv .1) (omega arith) (omega arith) in
+    (p .known, rw (to-end (c .before .before .before .loop .at)) (p .fits))
+
+size-requires : tie.Need-size-requires Inv-loop μ-loop
+size-requires c κs = search needs
+
+add-at : tie.Need-add-at Inv-loop μ-loop
+add-at c =
+    let p = at-place (c .before .before .before .before .before .before .before .before .args .entries .now) (c .before .before .before .before .before .before .before .before .args .bodies .now) (c .before .before .before .before .before .loop .i) (c .before .before .before .before .before .loop .at) (c .before .before .before .before .before .loop .inv .1) (omega arith) (omega arith) in
+    omega (arith, p .inside, c .size .ensures .0)
+
+add-i : tie.Need-add-i Inv-loop μ-loop
+add-i c = omega arith
+
+loop-less : tie.Need-loop-less Inv-loop μ-loop
+loop-less c = omega arith
+
+loop-again : tie.Need-loop-again Inv-loop μ-loop
+loop-again c =
+    let l = c .before .before .before .before .before .loop in
+    let a = c .before .before .before .before .before .before .before .before .args in
+    let p = at-place (a .entries .now) (a .bodies .now) (l .i) (l .at) (l .inv .1) (omega arith) (omega arith) in
+    rw (c .size .ensures .0, c .before .field-ok .ensures, to-end (l .at))
+    (p .inside, p .rest, turn (l .ok) _ _ (l .inv .2) (ap (all (nodeOk (a .texts))) (p .nodes)))
+
+returns : tie.Need-returns Inv-loop μ-loop
+returns c = done (c .before .loop .ok) (c .before .loop .inv .2) (ap (all (nodeOk (c .before .before .before .before .args .texts))) (nodes-end (c .before .before .before .before .args .entries .now) (drop (c .before .loop .at) (c .before .before .before .before .args .bodies .now)) (c .before .loop .i) (omega arith)))
+
+pub fields-ok-spec : {M : Type 1} → statement M
+fields-ok-spec =
+    tie.close
+    (tie.spec
+    Inv-loop
+    μ-loop
+    loop-holds
+    shared-slice-read-kind
+    sub-field-ok
+    part-field-ok-start
+    part-field-ok-end
+    field-ok-requires
+    size-requires
+    add-at
+    add-i
+    loop-less
+    loop-again
+    returns)

@@ -1,0 +1,53 @@
+use Rattle.ast.proofs.Scan.{sum-next, sum-end}
+use Rattle.ast.specs.File.{sum}
+use lib.ListN.{length, drop}
+use native.Mathlib.Omega.{arith}
+use Prim.Native.Nat.{_+_, _*_, _≤_, _-_}
+use mathlib.Core.Path.{_≡_}
+use Rattle.ast.proofs.bodies.text_bytes.Statement.{statement}
+use Rattle.ast.proofs.bodies.text_bytes.Tie as tie
+
+abbrev Inv-loop : tie.InvT-loop
+Inv-loop lengths total₀ i₀ total i = (i ≤ length lengths) × (total ≤ 255 * i) × (sum lengths ≡ total + sum (drop i lengths))
+
+abbrev μ-loop : tie.MeasureT-loop
+μ-loop lengths total₀ i₀ total i = length lengths - i
+
+loop-holds : tie.Need-loop-holds Inv-loop μ-loop
+loop-holds c = (omega arith, omega arith, omega arith)
+
+shared-slice-read-total : tie.Need-shared-slice-read-total Inv-loop μ-loop
+shared-slice-read-total c = omega arith
+
+cast-total : tie.Need-cast-total Inv-loop μ-loop
+cast-total c = omega (arith, c .shared-slice-known .given (c .before .before .loop .i))
+
+add-total : tie.Need-add-total Inv-loop μ-loop
+add-total c = omega (arith, c .shared-slice-known .given (c .before .before .loop .i))
+
+add-i : tie.Need-add-i Inv-loop μ-loop
+add-i c = omega arith
+
+loop-less : tie.Need-loop-less Inv-loop μ-loop
+loop-less c = omega arith
+
+loop-again : tie.Need-loop-again Inv-loop μ-loop
+loop-again c = (omega arith, omega (arith, c .shared-slice-known .given (c .before .before .loop .i)), omega (arith, sum-next (c .before .before .before .args .lengths .now) (c .before .before .loop .i) (omega arith)))
+
+returns : tie.Need-returns Inv-loop μ-loop
+returns c = (omega (arith, sum-end (c .before .before .args .lengths .now) (c .before .loop .i) (omega arith)), omega arith)
+
+pub text-bytes-spec : {M : Type 1} → statement M
+text-bytes-spec =
+    tie.close
+    (tie.spec
+    Inv-loop
+    μ-loop
+    loop-holds
+    shared-slice-read-total
+    cast-total
+    add-total
+    add-i
+    loop-less
+    loop-again
+    returns)

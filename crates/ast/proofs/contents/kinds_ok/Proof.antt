@@ -1,0 +1,55 @@
+use Prim.Native.Nat.{_-_}
+use Rattle.ast.proofs.Scan.{turn, done, firsts-next, firsts-end}
+use Rattle.ast.specs.File.{all, between, firsts}
+use lib.ListN.{length, drop}
+use native.Mathlib.Omega.{arith}
+use borrow.Author.Needs.{needs}
+use mathlib.Core.Bool.{_&&_}
+use mathlib.Core.Path.{_≡_, refl, ap}
+use Rattle.ast.proofs.contents.kinds_ok.Statement.{statement}
+use Rattle.ast.proofs.contents.kinds_ok.Tie as tie
+
+abbrev Inv-loop : tie.InvT-loop
+Inv-loop entries ok₀ i₀ ok i = all (between 1 23) (firsts entries) ≡ (ok && all (between 1 23) (firsts (drop i entries)))
+
+abbrev μ-loop : tie.MeasureT-loop
+μ-loop entries ok₀ i₀ ok i = length entries - i
+
+loop-holds : tie.Need-loop-holds Inv-loop μ-loop
+loop-holds c = refl
+
+shared-slice-read-wide : tie.Need-shared-slice-read-wide Inv-loop μ-loop
+shared-slice-read-wide c = omega arith
+
+wide-requires : tie.Need-wide-requires Inv-loop μ-loop
+wide-requires c κs = search needs
+
+within-requires : tie.Need-within-requires Inv-loop μ-loop
+within-requires c κs = search needs
+
+add-i : tie.Need-add-i Inv-loop μ-loop
+add-i c = omega arith
+
+loop-less : tie.Need-loop-less Inv-loop μ-loop
+loop-less c = omega arith
+
+loop-again : tie.Need-loop-again Inv-loop μ-loop
+loop-again c = rw (c .within .ensures, c .before .wide .ensures .0) (turn (c .before .before .before .before .loop .ok) _ _ (c .before .before .before .before .loop .inv) (ap (all (between 1 23)) (firsts-next (c .before .before .before .before .before .before .args .entries .now) (c .before .before .before .before .loop .i) (omega arith))))
+
+returns : tie.Need-returns Inv-loop μ-loop
+returns c = done (c .before .loop .ok) (c .before .loop .inv) (ap (all (between 1 23)) (firsts-end (c .before .before .before .args .entries .now) (c .before .loop .i) (omega arith)))
+
+pub kinds-ok-spec : {M : Type 1} → statement M
+kinds-ok-spec =
+    tie.close
+    (tie.spec
+    Inv-loop
+    μ-loop
+    loop-holds
+    shared-slice-read-wide
+    wide-requires
+    within-requires
+    add-i
+    loop-less
+    loop-again
+    returns)

@@ -1,0 +1,39 @@
+use Rattle.ast.proofs.Scan.{turn, done, all-next, all-end}
+use Rattle.ast.specs.File.{all}
+use lib.ListN.{length, drop}
+use lib.Dec.{leb}
+use native.Mathlib.Omega.{arith}
+use Prim.Native.Nat.{ℕ, _≤_, _-_}
+use mathlib.Core.Bool.{_&&_}
+use mathlib.Core.Path.{_≡_, refl}
+use Rattle.ast.proofs.contents.lengths_ok.Statement.{statement}
+use Rattle.ast.proofs.contents.lengths_ok.Tie as tie
+
+abbrev Inv-loop : tie.InvT-loop
+Inv-loop lengths ok₀ i₀ ok i = (i ≤ length lengths) × (all (λ (n : ℕ). leb n 40) lengths ≡ (ok && all (λ (n : ℕ). leb n 40) (drop i lengths)))
+
+abbrev μ-loop : tie.MeasureT-loop
+μ-loop lengths ok₀ i₀ ok i = length lengths - i
+
+loop-holds : tie.Need-loop-holds Inv-loop μ-loop
+loop-holds c = (omega arith, refl)
+
+shared-slice-read-ok : tie.Need-shared-slice-read-ok Inv-loop μ-loop
+shared-slice-read-ok c = omega arith
+
+add-i : tie.Need-add-i Inv-loop μ-loop
+add-i c = omega arith
+
+loop-less : tie.Need-loop-less Inv-loop μ-loop
+loop-less c = omega arith
+
+loop-again : tie.Need-loop-again Inv-loop μ-loop
+loop-again c = (omega arith, turn (c .before .before .loop .ok) _ _ (c .before .before .loop .inv .1) (all-next (λ (n : ℕ). leb n 40) (c .before .before .before .args .lengths .now) (c .before .before .loop .i) (omega arith)))
+
+returns : tie.Need-returns Inv-loop μ-loop
+returns c = done (c .before .loop .ok) (c .before .loop .inv .1) (all-end (λ (n : ℕ). leb n 40) (c .before .before .args .lengths .now) (c .before .loop .i) (omega arith))
+
+pub lengths-ok-spec : {M : Type 1} → statement M
+lengths-ok-spec =
+    tie.close
+    (tie.spec Inv-loop μ-loop loop-holds shared-slice-read-ok add-i loop-less loop-again returns)

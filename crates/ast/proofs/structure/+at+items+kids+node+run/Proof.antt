@@ -1,0 +1,854 @@
+use Rattle.ast.proofs.Steps.{at-stop, at-go, Reached, start, run-turn, run-end, keyed-turn, keyed-end, no-node, not-there, starts, table-node, other-node}
+use Rattle.ast.proofs.Agree.{Here, here}
+use Rattle.ast.proofs.Rooms.{First, first, to-end}
+use Rattle.ast.specs.Pass as places
+use Rattle.ast.specs.Pass.{Left, then, times, keyedTimes, stands, pass, Agrees, refuses}
+use lib.ListN.{length, getD, length-drop}
+use borrow.Author.Tests.{not-true, not-false}
+use native.Mathlib.Omega.{arith}
+use borrow.Author.Needs.{needs}
+use Prim.Native.Nat.{_+_, _*_}
+use mathlib.Core.Bool.{true, false}
+use mathlib.Core.Path.{_≡_, refl, sym, _∙_}
+use Prim.Native.Nat.{ℕ, _<_}
+use borrow.Fn.Kinds.{In}
+use borrow.Fn.PlainCycle.{Measures, is, falls, and}
+use Rattle.ast.proofs.structure.at.Reads as at
+use Rattle.ast.proofs.structure.at.Kinds as at-kinds
+use Rattle.ast.proofs.structure.+at+items+kids+node+run.Lts-at as at-lts
+use Rattle.ast.proofs.structure.items.Reads as items
+use Rattle.ast.proofs.structure.items.Kinds as items-kinds
+use Rattle.ast.proofs.structure.+at+items+kids+node+run.Lts-items as items-lts
+use Rattle.ast.proofs.structure.kids.Reads as kids
+use Rattle.ast.proofs.structure.kids.Kinds as kids-kinds
+use Rattle.ast.proofs.structure.+at+items+kids+node+run.Lts-kids as kids-lts
+use Rattle.ast.proofs.structure.node.Reads as node
+use Rattle.ast.proofs.structure.node.Kinds as node-kinds
+use Rattle.ast.proofs.structure.+at+items+kids+node+run.Lts-node as node-lts
+use Rattle.ast.proofs.structure.run.Reads as run
+use Rattle.ast.proofs.structure.run.Kinds as run-kinds
+use Rattle.ast.proofs.structure.+at+items+kids+node+run.Lts-run as run-lts
+use Rattle.ast.proofs.bodies.size.Reads as size-reads
+use Rattle.ast.proofs.structure.begin.Reads as begin-reads
+use Rattle.ast.proofs.structure.first_byte.Reads as first-byte-reads
+use Rattle.ast.proofs.structure.key_at.Reads as key-at-reads
+use Rattle.ast.proofs.structure.may_stand.Reads as may-stand-reads
+use Rattle.ast.proofs.structure.plan_of.Reads as plan-of-reads
+use Rattle.ast.proofs.structure.shift.Reads as shift-reads
+use Rattle.ast.proofs.structure.unless_key.Reads as unless-key-reads
+use Rattle.ast.proofs.structure.with_key.Reads as with-key-reads
+use Rattle.lent.proofs.wide.Reads as wide-reads
+use Rattle.ast.proofs.structure.+at+items+kids+node+run.{statement}
+use Rattle.ast.proofs.structure.+at+items+kids+node+run.Tie.{close}
+
+abbrev μ-at : Measures 2 at-kinds.ps ℕ
+μ-at κs a = a .1 .1 .1 .0 * 4 + 1
+
+abbrev μ-items : Measures 2 items-kinds.ps ℕ
+μ-items κs a = a .1 .1 .1 .0 * 4 + 2
+
+abbrev μ-kids : Measures 2 kids-kinds.ps ℕ
+μ-kids κs a = a .1 .1 .1 .0 * 4 + 3
+
+abbrev μ-node : Measures 2 node-kinds.ps ℕ
+μ-node κs a = a .1 .1 .1 .0 * 4
+
+abbrev μ-run : Measures 2 run-kinds.ps ℕ
+μ-run κs a = a .1 .1 .1 .1 .0 * 4 + 2
+
+abbrev at-at : ℕ → In 2 at-kinds.ps
+at-at t = and 2 at-kinds.ps (is 2 at-kinds.ps μ-at t) at.Pre
+
+abbrev at-below : ℕ → In 2 at-kinds.ps
+at-below t = and 2 at-kinds.ps (falls 2 at-kinds.ps _<_ μ-at t) at.Pre
+
+abbrev items-at : ℕ → In 2 items-kinds.ps
+items-at t = and 2 items-kinds.ps (is 2 items-kinds.ps μ-items t) items.Pre
+
+abbrev items-below : ℕ → In 2 items-kinds.ps
+items-below t = and 2 items-kinds.ps (falls 2 items-kinds.ps _<_ μ-items t) items.Pre
+
+abbrev kids-at : ℕ → In 2 kids-kinds.ps
+kids-at t = and 2 kids-kinds.ps (is 2 kids-kinds.ps μ-kids t) kids.Pre
+
+abbrev kids-below : ℕ → In 2 kids-kinds.ps
+kids-below t = and 2 kids-kinds.ps (falls 2 kids-kinds.ps _<_ μ-kids t) kids.Pre
+
+abbrev node-at : ℕ → In 2 node-kinds.ps
+node-at t = and 2 node-kinds.ps (is 2 node-kinds.ps μ-node t) node.Pre
+
+abbrev node-below : ℕ → In 2 node-kinds.ps
+node-below t = and 2 node-kinds.ps (falls 2 node-kinds.ps _<_ μ-node t) node.Pre
+
+abbrev run-at : ℕ → In 2 run-kinds.ps
+run-at t = and 2 run-kinds.ps (is 2 run-kinds.ps μ-run t) run.Pre
+
+abbrev run-below : ℕ → In 2 run-kinds.ps
+run-below t = and 2 run-kinds.ps (falls 2 run-kinds.ps _<_ μ-run t) run.Pre
+
+at-enum-known-p : (t : ℕ) → at-lts.Need-enum-known-p (
+  node-below t,
+  node.Post,
+  shift-reads.Asked,
+  shift-reads.Learnt,
+) (at-at t) at.Post
+at-enum-known-p t c = search needs
+
+at-enum-told : (t : ℕ) → at-lts.Need-enum-told (
+  node-below t,
+  node.Post,
+  shift-reads.Asked,
+  shift-reads.Learnt,
+) (at-at t) at.Post
+at-enum-told t c = search needs
+
+at-returns : (t : ℕ) → at-lts.Need-returns (
+  node-below t,
+  node.Post,
+  shift-reads.Asked,
+  shift-reads.Learnt,
+) (at-at t) at.Post
+at-returns t c = λ x a. at-stop _ a (c .enum-told .given .1)
+
+at-sub-node : (t : ℕ) → at-lts.Need-sub-node (
+  node-below t,
+  node.Post,
+  shift-reads.Asked,
+  shift-reads.Learnt,
+) (at-at t) at.Post
+at-sub-node t c = here (c .before .before .before .before .before .pre .1 .1) _ _ (c .before .p .given .1) .inC
+
+at-part-node-start : (t : ℕ) → at-lts.Need-part-node-start (
+  node-below t,
+  node.Post,
+  shift-reads.Asked,
+  shift-reads.Learnt,
+) (at-at t) at.Post
+at-part-node-start t c = here (c .before .before .before .before .before .pre .1 .1) _ _ (c .before .p .given .1) .inC
+
+at-part-node-end : (t : ℕ) → at-lts.Need-part-node-end (
+  node-below t,
+  node.Post,
+  shift-reads.Asked,
+  shift-reads.Learnt,
+) (at-at t) at.Post
+at-part-node-end t c = search needs
+
+at-sub-node-2 : (t : ℕ) → at-lts.Need-sub-node-2 (
+  node-below t,
+  node.Post,
+  shift-reads.Asked,
+  shift-reads.Learnt,
+) (at-at t) at.Post
+at-sub-node-2 t c = here (c .before .before .before .before .before .before .pre .1 .1) _ _ (c .before .before .p .given .1) .inB
+
+at-part-node-start-2 : (t : ℕ) → at-lts.Need-part-node-start-2 (
+  node-below t,
+  node.Post,
+  shift-reads.Asked,
+  shift-reads.Learnt,
+) (at-at t) at.Post
+at-part-node-start-2 t c = here (c .before .before .before .before .before .before .pre .1 .1) _ _ (c .before .before .p .given .1) .inB
+
+at-part-node-end-2 : (t : ℕ) → at-lts.Need-part-node-end-2 (
+  node-below t,
+  node.Post,
+  shift-reads.Asked,
+  shift-reads.Learnt,
+) (at-at t) at.Post
+at-part-node-end-2 t c = search needs
+
+at-node-requires : (t : ℕ) → at-lts.Need-node-requires (
+  node-below t,
+  node.Post,
+  shift-reads.Asked,
+  shift-reads.Learnt,
+) (at-at t) at.Post
+at-node-requires t c κs = (omega (arith, c .before .before .before .before .before .before .before .pre .0), simp to-end (here (c .before .before .before .before .before .before .before .pre .1 .1) _ _ (c .before .before .before .p .given .1) .fit))
+
+at-shift-requires : (t : ℕ) → at-lts.Need-shift-requires (
+  node-below t,
+  node.Post,
+  shift-reads.Asked,
+  shift-reads.Learnt,
+) (at-at t) at.Post
+at-shift-requires t c κs =
+    let h = here (c .before .before .before .before .before .before .before .before .pre .1 .1) _ _ (c .before .before .before .before .p .given .1) in
+    λ x y e.
+    let k = here (simp to-end at (c .node .ensures)) x y e in
+    (omega (arith, h .inC, simp length-drop at (k .inC)), omega (arith, h .inB, simp length-drop at (k .inB)))
+
+at-returns-2 : (t : ℕ) → at-lts.Need-returns-2 (
+  node-below t,
+  node.Post,
+  shift-reads.Asked,
+  shift-reads.Learnt,
+) (at-at t) at.Post
+at-returns-2 t c = λ x a. at-go _ (here a _ _ (c .before .before .before .before .before .p .given .1)) (simp to-end at (c .before .node .ensures)) (c .shift .ensures)
+
+abbrev items-Inv-loop : items-lts.InvT-loop
+items-Inv-loop n contents bodies depth q₀ keys₀ more₀ q keys more = (x : Left) → Agrees contents bodies x q₀ → Reached contents bodies q (then x (λ ns. keyedTimes (λ ms. pass depth places.item 0 false ms) 0 n ns)) (λ ns. keyedTimes (λ ms. pass depth places.item 0 false ms) keys more ns)
+
+abbrev items-μ-loop : items-lts.MeasureT-loop
+items-μ-loop n contents bodies depth q₀ keys₀ more₀ q keys more = more
+
+items-loop-holds : (t : ℕ) → items-lts.Need-loop-holds (
+  key-at-reads.Asked,
+  key-at-reads.Learnt,
+  at-below t,
+  at.Post,
+  unless-key-reads.Asked,
+  unless-key-reads.Learnt,
+  with-key-reads.Asked,
+  with-key-reads.Learnt,
+) (items-at t) items.Post items-Inv-loop items-μ-loop
+items-loop-holds t c = λ x a. start _ a
+
+items-key-at-requires : (t : ℕ) → items-lts.Need-key-at-requires (
+  key-at-reads.Asked,
+  key-at-reads.Learnt,
+  at-below t,
+  at.Post,
+  unless-key-reads.Asked,
+  unless-key-reads.Learnt,
+  with-key-reads.Asked,
+  with-key-reads.Learnt,
+) (items-at t) items.Post items-Inv-loop items-μ-loop
+items-key-at-requires t c κs =
+    let r = c .before .loop .inv (c .before .before .before .before .pre .1 .0) (c .before .before .before .before .pre .1 .1) in
+    (r .so, r .agrees)
+
+items-at-requires : (t : ℕ) → items-lts.Need-at-requires (
+  key-at-reads.Asked,
+  key-at-reads.Learnt,
+  at-below t,
+  at.Post,
+  unless-key-reads.Asked,
+  unless-key-reads.Learnt,
+  with-key-reads.Asked,
+  with-key-reads.Learnt,
+) (items-at t) items.Post items-Inv-loop items-μ-loop
+items-at-requires t c κs =
+    let r = c .before .before .loop .inv (c .before .before .before .before .before .pre .1 .0) (c .before .before .before .before .before .pre .1 .1) in
+    (omega (arith, c .before .before .before .before .before .pre .0), (r .so, r .agrees))
+
+items-unless-key-requires : (t : ℕ) → items-lts.Need-unless-key-requires (
+  key-at-reads.Asked,
+  key-at-reads.Learnt,
+  at-below t,
+  at.Post,
+  unless-key-reads.Asked,
+  unless-key-reads.Learnt,
+  with-key-reads.Asked,
+  with-key-reads.Learnt,
+) (items-at t) items.Post items-Inv-loop items-μ-loop
+items-unless-key-requires t c κs = c .before .key-at .ensures .0
+
+items-with-key-requires : (t : ℕ) → items-lts.Need-with-key-requires (
+  key-at-reads.Asked,
+  key-at-reads.Learnt,
+  at-below t,
+  at.Post,
+  unless-key-reads.Asked,
+  unless-key-reads.Learnt,
+  with-key-reads.Asked,
+  with-key-reads.Learnt,
+) (items-at t) items.Post items-Inv-loop items-μ-loop
+items-with-key-requires t c κs = c .before .before .key-at .ensures .0
+
+items-sub-more : (t : ℕ) → items-lts.Need-sub-more (
+  key-at-reads.Asked,
+  key-at-reads.Learnt,
+  at-below t,
+  at.Post,
+  unless-key-reads.Asked,
+  unless-key-reads.Learnt,
+  with-key-reads.Asked,
+  with-key-reads.Learnt,
+) (items-at t) items.Post items-Inv-loop items-μ-loop
+items-sub-more t c = omega arith
+
+items-loop-less : (t : ℕ) → items-lts.Need-loop-less (
+  key-at-reads.Asked,
+  key-at-reads.Learnt,
+  at-below t,
+  at.Post,
+  unless-key-reads.Asked,
+  unless-key-reads.Learnt,
+  with-key-reads.Asked,
+  with-key-reads.Learnt,
+) (items-at t) items.Post items-Inv-loop items-μ-loop
+items-loop-less t c = omega arith
+
+items-loop-again : (t : ℕ) → items-lts.Need-loop-again (
+  key-at-reads.Asked,
+  key-at-reads.Learnt,
+  at-below t,
+  at.Post,
+  unless-key-reads.Asked,
+  unless-key-reads.Learnt,
+  with-key-reads.Asked,
+  with-key-reads.Learnt,
+) (items-at t) items.Post items-Inv-loop items-μ-loop
+items-loop-again t c = λ x a. rw (c .with-key .ensures) (keyed-turn _ (c .before .before .before .before .before .loop .keys) (c .before .before .before .before .before .loop .more) (c .before .before .before .key-at .result) (omega arith) (c .before .before .before .before .before .loop .inv x a) (c .before .before .before .key-at .ensures .1) (c .before .before .at .ensures) (c .before .unless-key .ensures))
+
+items-returns : (t : ℕ) → items-lts.Need-returns (
+  key-at-reads.Asked,
+  key-at-reads.Learnt,
+  at-below t,
+  at.Post,
+  unless-key-reads.Asked,
+  unless-key-reads.Learnt,
+  with-key-reads.Asked,
+  with-key-reads.Learnt,
+) (items-at t) items.Post items-Inv-loop items-μ-loop
+items-returns t c = λ x a. keyed-end _ (c .before .loop .keys) (c .before .loop .more) (omega arith) (c .before .loop .inv x a)
+
+kids-run-requires :
+    (t : ℕ) → kids-lts.Need-run-requires (run-below t, run.Post) (kids-at t) kids.Post
+kids-run-requires t c κs = (omega (arith, c .before .before .pre .0), c .before .before .pre .1)
+
+kids-run-requires-2 :
+    (t : ℕ) → kids-lts.Need-run-requires-2 (run-below t, run.Post) (kids-at t) kids.Post
+kids-run-requires-2 t c κs = (omega (arith, c .before .before .before .pre .0), (_, c .run .ensures _ (c .before .before .before .pre .1 .1)))
+
+kids-run-requires-3 :
+    (t : ℕ) → kids-lts.Need-run-requires-3 (run-below t, run.Post) (kids-at t) kids.Post
+kids-run-requires-3 t c κs = (omega (arith, c .before .before .before .before .pre .0), (_, c .run2 .ensures _ (c .before .run .ensures _ (c .before .before .before .before .pre .1 .1))))
+
+kids-run-requires-4 :
+    (t : ℕ) → kids-lts.Need-run-requires-4 (run-below t, run.Post) (kids-at t) kids.Post
+kids-run-requires-4 t c κs = (omega (arith, c .before .before .before .before .before .pre .0), (_, c .run3 .ensures _ (c .before .run2 .ensures _ (c .before .before .run .ensures _ (c .before .before .before .before .before .pre .1 .1)))))
+
+kids-returns : (t : ℕ) → kids-lts.Need-returns (run-below t, run.Post) (kids-at t) kids.Post
+kids-returns t c = λ x a. c .run4 .ensures _ (c .before .run3 .ensures _ (c .before .before .run2 .ensures _ (c .before .before .before .run .ensures x a)))
+
+node-returns : (t : ℕ) → node-lts.Need-returns (
+  wide-reads.Asked,
+  wide-reads.Learnt,
+  may-stand-reads.Asked,
+  may-stand-reads.Learnt,
+  first-byte-reads.Asked,
+  first-byte-reads.Learnt,
+  plan-of-reads.Asked,
+  plan-of-reads.Learnt,
+  size-reads.Asked,
+  size-reads.Learnt,
+  begin-reads.Asked,
+  begin-reads.Learnt,
+  items-below t,
+  items.Post,
+  kids-below t,
+  kids.Post,
+) (node-at t) node.Post
+node-returns t c = let e = c .if1 .taken in rw e refuses
+
+node-returns-2 : (t : ℕ) → node-lts.Need-returns-2 (
+  wide-reads.Asked,
+  wide-reads.Learnt,
+  may-stand-reads.Asked,
+  may-stand-reads.Learnt,
+  first-byte-reads.Asked,
+  first-byte-reads.Learnt,
+  plan-of-reads.Asked,
+  plan-of-reads.Learnt,
+  size-reads.Asked,
+  size-reads.Learnt,
+  begin-reads.Asked,
+  begin-reads.Learnt,
+  items-below t,
+  items.Post,
+  kids-below t,
+  kids.Post,
+) (node-at t) node.Post
+node-returns-2 t c = let a = c .before .before .before .before .args in rw (no-node (a .depth) (a .place) (a .loops) (a .inside) (a .contents .now) (a .bodies .now) (c .if2 .taken)) refuses
+
+node-shared-slice-read-kind : (t : ℕ) → node-lts.Need-shared-slice-read-kind (
+  wide-reads.Asked,
+  wide-reads.Learnt,
+  may-stand-reads.Asked,
+  may-stand-reads.Learnt,
+  first-byte-reads.Asked,
+  first-byte-reads.Learnt,
+  plan-of-reads.Asked,
+  plan-of-reads.Learnt,
+  size-reads.Asked,
+  size-reads.Learnt,
+  begin-reads.Asked,
+  begin-reads.Learnt,
+  items-below t,
+  items.Post,
+  kids-below t,
+  kids.Post,
+) (node-at t) node.Post
+node-shared-slice-read-kind t c = omega arith
+
+node-shared-slice-read-wide : (t : ℕ) → node-lts.Need-shared-slice-read-wide (
+  wide-reads.Asked,
+  wide-reads.Learnt,
+  may-stand-reads.Asked,
+  may-stand-reads.Learnt,
+  first-byte-reads.Asked,
+  first-byte-reads.Learnt,
+  plan-of-reads.Asked,
+  plan-of-reads.Learnt,
+  size-reads.Asked,
+  size-reads.Learnt,
+  begin-reads.Asked,
+  begin-reads.Learnt,
+  items-below t,
+  items.Post,
+  kids-below t,
+  kids.Post,
+) (node-at t) node.Post
+node-shared-slice-read-wide t c = let g = first (c .before .before .before .before .before .before .pre .1 .room) (omega arith) in omega (arith, g .two)
+
+node-wide-requires : (t : ℕ) → node-lts.Need-wide-requires (
+  wide-reads.Asked,
+  wide-reads.Learnt,
+  may-stand-reads.Asked,
+  may-stand-reads.Learnt,
+  first-byte-reads.Asked,
+  first-byte-reads.Learnt,
+  plan-of-reads.Asked,
+  plan-of-reads.Learnt,
+  size-reads.Asked,
+  size-reads.Learnt,
+  begin-reads.Asked,
+  begin-reads.Learnt,
+  items-below t,
+  items.Post,
+  kids-below t,
+  kids.Post,
+) (node-at t) node.Post
+node-wide-requires t c κs = search needs
+
+node-wide-requires-2 : (t : ℕ) → node-lts.Need-wide-requires-2 (
+  wide-reads.Asked,
+  wide-reads.Learnt,
+  may-stand-reads.Asked,
+  may-stand-reads.Learnt,
+  first-byte-reads.Asked,
+  first-byte-reads.Learnt,
+  plan-of-reads.Asked,
+  plan-of-reads.Learnt,
+  size-reads.Asked,
+  size-reads.Learnt,
+  begin-reads.Asked,
+  begin-reads.Learnt,
+  items-below t,
+  items.Post,
+  kids-below t,
+  kids.Post,
+) (node-at t) node.Post
+node-wide-requires-2 t c κs = search needs
+
+node-may-stand-requires : (t : ℕ) → node-lts.Need-may-stand-requires (
+  wide-reads.Asked,
+  wide-reads.Learnt,
+  may-stand-reads.Asked,
+  may-stand-reads.Learnt,
+  first-byte-reads.Asked,
+  first-byte-reads.Learnt,
+  plan-of-reads.Asked,
+  plan-of-reads.Learnt,
+  size-reads.Asked,
+  size-reads.Learnt,
+  begin-reads.Asked,
+  begin-reads.Learnt,
+  items-below t,
+  items.Post,
+  kids-below t,
+  kids.Post,
+) (node-at t) node.Post
+node-may-stand-requires t c κs = let g = first (c .before .before .before .before .before .before .before .before .pre .1 .room) (omega arith) in omega (arith, g .known, c .wide2 .ensures .0)
+
+node-returns-3 : (t : ℕ) → node-lts.Need-returns-3 (
+  wide-reads.Asked,
+  wide-reads.Learnt,
+  may-stand-reads.Asked,
+  may-stand-reads.Learnt,
+  first-byte-reads.Asked,
+  first-byte-reads.Learnt,
+  plan-of-reads.Asked,
+  plan-of-reads.Learnt,
+  size-reads.Asked,
+  size-reads.Learnt,
+  begin-reads.Asked,
+  begin-reads.Learnt,
+  items-below t,
+  items.Post,
+  kids-below t,
+  kids.Post,
+) (node-at t) node.Post
+node-returns-3 t c =
+    let a = c .before .before .before .before .before .before .before .before .before .before .args in
+    let fit = c .before .before .before .before .before .before .before .before .before .before .pre .1 in
+    let g = first (fit .room) (omega arith) in
+    rw (not-there (a .depth) (a .place) (a .loops) (a .inside) (c .before .before .before .before .before .before .before .if1 .left) fit g (rw (← c .before .before .wide2 .ensures .0) (sym (c .before .may-stand .ensures) ∙ not-true (c .before .may-stand .result) (c .if3 .taken)))) refuses
+
+node-first-byte-requires : (t : ℕ) → node-lts.Need-first-byte-requires (
+  wide-reads.Asked,
+  wide-reads.Learnt,
+  may-stand-reads.Asked,
+  may-stand-reads.Learnt,
+  first-byte-reads.Asked,
+  first-byte-reads.Learnt,
+  plan-of-reads.Asked,
+  plan-of-reads.Learnt,
+  size-reads.Asked,
+  size-reads.Learnt,
+  begin-reads.Asked,
+  begin-reads.Learnt,
+  items-below t,
+  items.Post,
+  kids-below t,
+  kids.Post,
+) (node-at t) node.Post
+node-first-byte-requires t c κs = search needs
+
+node-plan-of-requires : (t : ℕ) → node-lts.Need-plan-of-requires (
+  wide-reads.Asked,
+  wide-reads.Learnt,
+  may-stand-reads.Asked,
+  may-stand-reads.Learnt,
+  first-byte-reads.Asked,
+  first-byte-reads.Learnt,
+  plan-of-reads.Asked,
+  plan-of-reads.Learnt,
+  size-reads.Asked,
+  size-reads.Learnt,
+  begin-reads.Asked,
+  begin-reads.Learnt,
+  items-below t,
+  items.Post,
+  kids-below t,
+  kids.Post,
+) (node-at t) node.Post
+node-plan-of-requires t c κs = let g = first (c .before .before .before .before .before .before .before .before .before .before .before .pre .1 .room) (omega arith) in (g .least, g .known, c .first-byte .ensures .1)
+
+node-size-requires : (t : ℕ) → node-lts.Need-size-requires (
+  wide-reads.Asked,
+  wide-reads.Learnt,
+  may-stand-reads.Asked,
+  may-stand-reads.Learnt,
+  first-byte-reads.Asked,
+  first-byte-reads.Learnt,
+  plan-of-reads.Asked,
+  plan-of-reads.Learnt,
+  size-reads.Asked,
+  size-reads.Learnt,
+  begin-reads.Asked,
+  begin-reads.Learnt,
+  items-below t,
+  items.Post,
+  kids-below t,
+  kids.Post,
+) (node-at t) node.Post
+node-size-requires t c κs = search needs
+
+node-begin-requires : (t : ℕ) → node-lts.Need-begin-requires (
+  wide-reads.Asked,
+  wide-reads.Learnt,
+  may-stand-reads.Asked,
+  may-stand-reads.Learnt,
+  first-byte-reads.Asked,
+  first-byte-reads.Learnt,
+  plan-of-reads.Asked,
+  plan-of-reads.Learnt,
+  size-reads.Asked,
+  size-reads.Learnt,
+  begin-reads.Asked,
+  begin-reads.Learnt,
+  items-below t,
+  items.Post,
+  kids-below t,
+  kids.Post,
+) (node-at t) node.Post
+node-begin-requires t c κs = search needs
+
+node-sub-items : (t : ℕ) → node-lts.Need-sub-items (
+  wide-reads.Asked,
+  wide-reads.Learnt,
+  may-stand-reads.Asked,
+  may-stand-reads.Learnt,
+  first-byte-reads.Asked,
+  first-byte-reads.Learnt,
+  plan-of-reads.Asked,
+  plan-of-reads.Learnt,
+  size-reads.Asked,
+  size-reads.Learnt,
+  begin-reads.Asked,
+  begin-reads.Learnt,
+  items-below t,
+  items.Post,
+  kids-below t,
+  kids.Post,
+) (node-at t) node.Post
+node-sub-items t c = omega arith
+
+node-items-requires : (t : ℕ) → node-lts.Need-items-requires (
+  wide-reads.Asked,
+  wide-reads.Learnt,
+  may-stand-reads.Asked,
+  may-stand-reads.Learnt,
+  first-byte-reads.Asked,
+  first-byte-reads.Learnt,
+  plan-of-reads.Asked,
+  plan-of-reads.Learnt,
+  size-reads.Asked,
+  size-reads.Learnt,
+  begin-reads.Asked,
+  begin-reads.Learnt,
+  items-below t,
+  items.Post,
+  kids-below t,
+  kids.Post,
+) (node-at t) node.Post
+node-items-requires t c κs =
+    let a = c .before .before .before .before .before .before .before .before .before .before .before .before .before .before .before .args in
+    let fit = c .before .before .before .before .before .before .before .before .before .before .before .before .before .before .before .pre .1 in
+    let g = first (fit .room) (omega arith) in
+    let there : stands (a .place) (getD (a .contents .now) 0 0) ≡ true = rw (← c .before .before .before .before .before .before .before .wide2 .ensures .0) (sym (c .before .before .before .before .before .before .may-stand .ensures) ∙ not-false (c .before .before .before .before .before .before .may-stand .result) (c .before .before .before .before .before .if3 .left)) in
+    let ep = rw (c .before .before .before .before .before .before .before .before .wide .ensures .0, c .before .before .before .before .first-byte .ensures .0) at (c .before .before .before .plan-of .ensures) in
+    (omega (arith, c .before .before .before .before .before .before .before .before .before .before .before .before .before .before .before .pre .0), starts (a .depth) (a .place) (a .loops) (a .inside) (c .before .before .before .before .before .before .before .before .before .before .before .before .if1 .left) fit g there ep (c .before .before .size .ensures .0) (c .before .begin .ensures))
+
+node-returns-4 : (t : ℕ) → node-lts.Need-returns-4 (
+  wide-reads.Asked,
+  wide-reads.Learnt,
+  may-stand-reads.Asked,
+  may-stand-reads.Learnt,
+  first-byte-reads.Asked,
+  first-byte-reads.Learnt,
+  plan-of-reads.Asked,
+  plan-of-reads.Learnt,
+  size-reads.Asked,
+  size-reads.Learnt,
+  begin-reads.Asked,
+  begin-reads.Learnt,
+  items-below t,
+  items.Post,
+  kids-below t,
+  kids.Post,
+) (node-at t) node.Post
+node-returns-4 t c =
+    let a = c .before .before .before .before .before .before .before .before .before .before .before .before .before .before .before .before .args in
+    let fit = c .before .before .before .before .before .before .before .before .before .before .before .before .before .before .before .before .pre .1 in
+    let g = first (fit .room) (omega arith) in
+    let there : stands (a .place) (getD (a .contents .now) 0 0) ≡ true = rw (← c .before .before .before .before .before .before .before .before .wide2 .ensures .0) (sym (c .before .before .before .before .before .before .before .may-stand .ensures) ∙ not-false (c .before .before .before .before .before .before .before .may-stand .result) (c .before .before .before .before .before .before .if3 .left)) in
+    let ep = rw (c .before .before .before .before .before .before .before .before .before .wide .ensures .0, c .before .before .before .before .before .first-byte .ensures .0) at (c .before .before .before .before .plan-of .ensures) in
+    table-node (a .depth) (a .place) (a .loops) (a .inside) (c .before .before .before .before .before .before .before .before .before .before .before .before .before .if1 .left) fit g there ep (c .before .before .before .size .ensures .0) (c .before .before .begin .ensures) (c .before .if4 .taken) (c .before .before .before .before .before .before .before .before .before .wide .ensures .0) (c .items .ensures)
+
+node-sub-kids : (t : ℕ) → node-lts.Need-sub-kids (
+  wide-reads.Asked,
+  wide-reads.Learnt,
+  may-stand-reads.Asked,
+  may-stand-reads.Learnt,
+  first-byte-reads.Asked,
+  first-byte-reads.Learnt,
+  plan-of-reads.Asked,
+  plan-of-reads.Learnt,
+  size-reads.Asked,
+  size-reads.Learnt,
+  begin-reads.Asked,
+  begin-reads.Learnt,
+  items-below t,
+  items.Post,
+  kids-below t,
+  kids.Post,
+) (node-at t) node.Post
+node-sub-kids t c = omega arith
+
+node-kids-requires : (t : ℕ) → node-lts.Need-kids-requires (
+  wide-reads.Asked,
+  wide-reads.Learnt,
+  may-stand-reads.Asked,
+  may-stand-reads.Learnt,
+  first-byte-reads.Asked,
+  first-byte-reads.Learnt,
+  plan-of-reads.Asked,
+  plan-of-reads.Learnt,
+  size-reads.Asked,
+  size-reads.Learnt,
+  begin-reads.Asked,
+  begin-reads.Learnt,
+  items-below t,
+  items.Post,
+  kids-below t,
+  kids.Post,
+) (node-at t) node.Post
+node-kids-requires t c κs =
+    let a = c .before .before .before .before .before .before .before .before .before .before .before .before .before .before .before .args in
+    let fit = c .before .before .before .before .before .before .before .before .before .before .before .before .before .before .before .pre .1 in
+    let g = first (fit .room) (omega arith) in
+    let there : stands (a .place) (getD (a .contents .now) 0 0) ≡ true = rw (← c .before .before .before .before .before .before .before .wide2 .ensures .0) (sym (c .before .before .before .before .before .before .may-stand .ensures) ∙ not-false (c .before .before .before .before .before .before .may-stand .result) (c .before .before .before .before .before .if3 .left)) in
+    let ep = rw (c .before .before .before .before .before .before .before .before .wide .ensures .0, c .before .before .before .before .first-byte .ensures .0) at (c .before .before .before .plan-of .ensures) in
+    (omega (arith, c .before .before .before .before .before .before .before .before .before .before .before .before .before .before .before .pre .0), starts (a .depth) (a .place) (a .loops) (a .inside) (c .before .before .before .before .before .before .before .before .before .before .before .before .if1 .left) fit g there ep (c .before .before .size .ensures .0) (c .before .begin .ensures))
+
+node-returns-5 : (t : ℕ) → node-lts.Need-returns-5 (
+  wide-reads.Asked,
+  wide-reads.Learnt,
+  may-stand-reads.Asked,
+  may-stand-reads.Learnt,
+  first-byte-reads.Asked,
+  first-byte-reads.Learnt,
+  plan-of-reads.Asked,
+  plan-of-reads.Learnt,
+  size-reads.Asked,
+  size-reads.Learnt,
+  begin-reads.Asked,
+  begin-reads.Learnt,
+  items-below t,
+  items.Post,
+  kids-below t,
+  kids.Post,
+) (node-at t) node.Post
+node-returns-5 t c =
+    let a = c .before .before .before .before .before .before .before .before .before .before .before .before .before .before .before .before .args in
+    let fit = c .before .before .before .before .before .before .before .before .before .before .before .before .before .before .before .before .pre .1 in
+    let g = first (fit .room) (omega arith) in
+    let there : stands (a .place) (getD (a .contents .now) 0 0) ≡ true = rw (← c .before .before .before .before .before .before .before .before .wide2 .ensures .0) (sym (c .before .before .before .before .before .before .before .may-stand .ensures) ∙ not-false (c .before .before .before .before .before .before .before .may-stand .result) (c .before .before .before .before .before .before .if3 .left)) in
+    let ep = rw (c .before .before .before .before .before .before .before .before .before .wide .ensures .0, c .before .before .before .before .before .first-byte .ensures .0) at (c .before .before .before .before .plan-of .ensures) in
+    other-node (a .depth) (a .place) (a .loops) (a .inside) (c .before .before .before .before .before .before .before .before .before .before .before .before .before .if1 .left) fit g there ep (c .before .before .before .size .ensures .0) (c .before .before .begin .ensures) (c .before .if4 .left) (c .kids .ensures)
+
+abbrev run-Inv-loop : run-lts.InvT-loop
+run-Inv-loop place n contents bodies depth loops inside q₀ more₀ q more = (x : Left) → Agrees contents bodies x q₀ → Reached contents bodies q (then x (λ ns. times (λ ms. pass depth place loops inside ms) n ns)) (λ ns. times (λ ms. pass depth place loops inside ms) more ns)
+
+abbrev run-μ-loop : run-lts.MeasureT-loop
+run-μ-loop place n contents bodies depth loops inside q₀ more₀ q more = more
+
+run-loop-holds :
+    (t : ℕ) →
+    run-lts.Need-loop-holds (at-below t, at.Post) (run-at t) run.Post run-Inv-loop run-μ-loop
+run-loop-holds t c = λ x a. start _ a
+
+run-at-requires :
+    (t : ℕ) →
+    run-lts.Need-at-requires (at-below t, at.Post) (run-at t) run.Post run-Inv-loop run-μ-loop
+run-at-requires t c κs =
+    let r = c .before .loop .inv (c .before .before .before .before .pre .1 .0) (c .before .before .before .before .pre .1 .1) in
+    (omega (arith, c .before .before .before .before .pre .0), (r .so, r .agrees))
+
+run-sub-more :
+    (t : ℕ) →
+    run-lts.Need-sub-more (at-below t, at.Post) (run-at t) run.Post run-Inv-loop run-μ-loop
+run-sub-more t c = omega arith
+
+run-loop-less :
+    (t : ℕ) →
+    run-lts.Need-loop-less (at-below t, at.Post) (run-at t) run.Post run-Inv-loop run-μ-loop
+run-loop-less t c = omega arith
+
+run-loop-again :
+    (t : ℕ) →
+    run-lts.Need-loop-again (at-below t, at.Post) (run-at t) run.Post run-Inv-loop run-μ-loop
+run-loop-again t c = λ x a. run-turn _ (c .before .before .loop .more) (omega arith) (c .before .before .loop .inv x a) (c .at .ensures)
+
+run-returns :
+    (t : ℕ) →
+    run-lts.Need-returns (at-below t, at.Post) (run-at t) run.Post run-Inv-loop run-μ-loop
+run-returns t c = λ x a. run-end _ (c .before .loop .more) (omega arith) (c .before .loop .inv x a)
+
+pub +at+items+kids+node+run-spec : {M : Type 1} → statement M
++at+items+kids+node+run-spec = close μ-at μ-items μ-kids μ-node μ-run (λ t. at-lts.spec (
+  node-below t,
+  node.Post,
+  shift-reads.Asked,
+  shift-reads.Learnt,
+)
+    (at-at t)
+    at.Post
+    (at-enum-known-p t)
+    (at-enum-told t)
+    (at-returns t)
+    (at-sub-node t)
+    (at-part-node-start t)
+    (at-part-node-end t)
+    (at-sub-node-2 t)
+    (at-part-node-start-2 t)
+    (at-part-node-end-2 t)
+    (at-node-requires t)
+    (at-shift-requires t)
+    (at-returns-2 t))
+    (λ t. items-lts.spec (
+      key-at-reads.Asked,
+      key-at-reads.Learnt,
+      at-below t,
+      at.Post,
+      unless-key-reads.Asked,
+      unless-key-reads.Learnt,
+      with-key-reads.Asked,
+      with-key-reads.Learnt,
+    )
+    (items-at t)
+    items.Post
+    items-Inv-loop
+    items-μ-loop
+    (items-loop-holds t)
+    (items-key-at-requires t)
+    (items-at-requires t)
+    (items-unless-key-requires t)
+    (items-with-key-requires t)
+    (items-sub-more t)
+    (items-loop-less t)
+    (items-loop-again t)
+    (items-returns t))
+    (λ t. kids-lts.spec
+    (run-below t, run.Post)
+    (kids-at t)
+    kids.Post
+    (kids-run-requires t)
+    (kids-run-requires-2 t)
+    (kids-run-requires-3 t)
+    (kids-run-requires-4 t)
+    (kids-returns t))
+    (λ t. node-lts.spec (
+      wide-reads.Asked,
+      wide-reads.Learnt,
+      may-stand-reads.Asked,
+      may-stand-reads.Learnt,
+      first-byte-reads.Asked,
+      first-byte-reads.Learnt,
+      plan-of-reads.Asked,
+      plan-of-reads.Learnt,
+      size-reads.Asked,
+      size-reads.Learnt,
+      begin-reads.Asked,
+      begin-reads.Learnt,
+      items-below t,
+      items.Post,
+      kids-below t,
+      kids.Post,
+    )
+    (node-at t)
+    node.Post
+    (node-returns t)
+    (node-returns-2 t)
+    (node-shared-slice-read-kind t)
+    (node-shared-slice-read-wide t)
+    (node-wide-requires t)
+    (node-wide-requires-2 t)
+    (node-may-stand-requires t)
+    (node-returns-3 t)
+    (node-first-byte-requires t)
+    (node-plan-of-requires t)
+    (node-size-requires t)
+    (node-begin-requires t)
+    (node-sub-items t)
+    (node-items-requires t)
+    (node-returns-4 t)
+    (node-sub-kids t)
+    (node-kids-requires t)
+    (node-returns-5 t))
+    λ t. run-lts.spec
+    (at-below t, at.Post)
+    (run-at t)
+    run.Post
+    run-Inv-loop
+    run-μ-loop
+    (run-loop-holds t)
+    (run-at-requires t)
+    (run-sub-more t)
+    (run-loop-less t)
+    (run-loop-again t)
+    (run-returns t)

@@ -1,0 +1,114 @@
+// The bodies: the sizes that the contents give them, and the nodes' text numbers and operators.
+ghost use mathlib.Core.Path.{_≡_};
+ghost use mathlib.Core.Bool.{_&&_};
+ghost use mathlib.Core.List.{map};
+ghost use Prim.Native.Nat.{_+_, _≤_, _<_};
+ghost use lib.ListN.{length, take};
+ghost use Rattle.ast.specs.Node.{kindOf, body, bodySize};
+ghost use Rattle.ast.specs.File.{sum, firsts, fieldOk, all, nodeOk, nodesFrom};
+ghost use Rattle.ast.specs.Room.{Room};
+
+// Bytes of a node's body, by kind.
+const SIZES: [u8; 24] = [
+    0,
+    0,
+    0,
+    1,
+    0,
+    2,
+    0,
+    0,
+    1,
+    1,
+    0,
+    1,
+    1,
+    1,
+    1,
+    1,
+    1,
+    1,
+    1,
+    8,
+    1,
+    1,
+    0,
+    0,
+];
+
+pub fn size(kind: u8) -> usize
+    ensures { λ r. ⌜ (r ≡ bodySize (body (kindOf kind))) × (r < 9) ⌝ }
+{
+    let k = kind as usize;
+    if 24 <= k {
+        return 0;
+    }
+    SIZES[k] as usize
+}
+
+pub fn text_bytes(lengths: &[u8]) -> usize
+    requires { ⌜ length (now lengths) ≤ 64 ⌝ }
+    ensures { λ r. ⌜ (r ≡ sum (now (lengths .entry))) × (r ≤ 16320) ⌝ }
+{
+    let mut total: usize = 0;
+    let mut i = 0;
+    while i < lengths.len() {
+        total += lengths[i] as usize;
+        i += 1;
+    }
+    total
+}
+
+pub fn node_bytes(entries: &[u8]) -> usize
+    requires { ⌜ length (now entries) ≤ 2048 ⌝ }
+    ensures { λ r. ⌜ (r ≡ sum (map (λ k. bodySize (body (kindOf k))) (firsts (now (entries .entry))))) × (r ≤ 20000) ⌝ }
+{
+    let mut total: usize = 0;
+    let mut i = 0;
+    while i < entries.len() {
+        total += size(entries[i]);
+        i += 2;
+    }
+    total
+}
+
+// 5: a text number not below the text count, or an unknown operator. bodies starts at the node's own.
+pub fn field_ok(texts: u64, kind: u8, bodies: &[u8]) -> bool
+    requires { ⌜ (kind < 24) × (bodySize (body (kindOf kind)) ≤ length (now bodies)) ⌝ }
+    ensures { λ r. ⌜ r ≡ fieldOk texts (body (kindOf kind)) (take (bodySize (body (kindOf kind))) (now (bodies .entry))) ⌝ }
+{
+    if kind == 17 {
+        return crate::contents::within(1, 13, lent::wide(bodies[0]));
+    }
+    if kind == 18 {
+        return crate::contents::within(1, 2, lent::wide(bodies[0]));
+    }
+    if kind == 5 {
+        return (lent::wide(bodies[0]) < texts) & (lent::wide(bodies[1]) < texts);
+    }
+    if kind == 3 {
+        return true;
+    }
+    let n = size(kind);
+    if n == 1 {
+        return lent::wide(bodies[0]) < texts;
+    }
+    true
+}
+
+// The fields of all nodes.
+pub fn fields_ok(texts: u64, entries: &[u8], bodies: &[u8]) -> bool
+    requires { ⌜ (length (now entries) ≤ 2048) × Room (now entries) (now bodies) ⌝ }
+    ensures { λ r. ⌜ r ≡ all (nodeOk texts) (nodesFrom (now (entries .entry)) (now (bodies .entry))) ⌝ }
+{
+    let mut ok = true;
+    let mut at = 0;
+    let mut i = 0;
+    while i < entries.len() {
+        let kind = entries[i];
+        ok = ok & field_ok(texts, kind, &bodies[at..]);
+        at += size(kind);
+        i += 2;
+    }
+    ok
+}

@@ -1,0 +1,82 @@
+-- A list of calls on a started state, run and reading a name, "each lent what the one before left": what demand 3 speaks of. Document 01, "The walk", last
+-- paragraph, and "Running". Definitions only.
+use Prim.Native.Nat.{ℕ, zero, suc, _+_}
+use mathlib.Core.Bool.{cond}
+use mathlib.Core.List.{List, [], _∷_}
+use mathlib.Core.Option.{Option, none, some}
+use lib.Dec.{eqb}
+use lib.ListN.{getD}
+use Rattle.lent.specs.Bytes.{beValue, part}
+use Rattle.vm.specs.RuntimeErr.{number, details}
+use Rattle.vm.specs.Machine.{Answer, Done, Stopped, Spent}
+use Rattle.engine.specs.Calls.{RunAnswered, runCall, readCall}
+
+-- A call with its number and the buffer lent for the answer, whatever they are, so that refused calls are among them.
+pub data Call : Type 0 where
+  -- steps, report buffer
+  Run : ℕ → List ℕ → Call
+  -- text number, out buffer
+  ReadName : ℕ → List ℕ → Call
+
+-- what a call answers, with the state and the buffer afterwards: reading a name does not write the state
+abbrev pub outcome : List ℕ → List ℕ → Call → RunAnswered
+outcome program state (Run n out) = runCall program state n out
+outcome program state (ReadName x out) = let a = readCall state x out in record { result = a .result; state = state; report = a .buffer }
+
+-- the steps that a call gives
+abbrev pub steps : Call → ℕ
+steps (Run n out) = n
+steps (ReadName x out) = 0
+
+-- the steps taken, as told in a run's report
+abbrev pub told : Call → List ℕ → ℕ
+told (Run n out) r = beValue (part r 40 8)
+told (ReadName x out) r = 0
+
+-- How a run ended, as told in its report: answer, number and three details, zero where a stop has fewer. Neither the line nor the steps taken.
+pub record Ending : Type 0 where
+  pub answer : ℕ
+  pub number : ℕ
+  pub details : List ℕ
+
+abbrev pub endingIn : List ℕ → Ending
+endingIn r = record { answer = getD r 0 0; number = getD r 1 0; details = beValue (part r 16 8) ∷ (beValue (part r 24 8) ∷ (beValue (part r 32 8) ∷ [])) }
+
+abbrev pub ending : ℕ → ℕ → List ℕ → Ending
+ending a n d = record { answer = a; number = n; details = getD d 0 0 ∷ (getD d 1 0 ∷ (getD d 2 0 ∷ [])) }
+
+-- done 0, "stopped at an error" 1, spent 2
+abbrev pub endingOf : Answer → Ending
+endingOf Done = ending 0 0 []
+endingOf (Stopped e) = ending 1 (number e) (details e)
+endingOf Spent = ending 2 0 []
+
+-- What calls leave: the state's bytes; over the accepted ones the steps given and those told as taken; and "how the last steps given, if any, ended".
+pub record Left : Type 0 where
+  pub state : List ℕ
+  pub given : ℕ
+  pub taken : ℕ
+  pub last : Option Ending
+
+-- a call that gave no steps ended none
+abbrev pub latest : ℕ → Ending → Option Ending → Option Ending
+latest zero e o = o
+latest (suc n) e o = some e
+
+-- "a refused call gave no steps"
+abbrev pub joined : Call → RunAnswered → Left → Left
+joined c a l =
+    cond (eqb (a .result) 0)
+    (record { state = a .state; given = l .given + steps c; taken = l .taken + told c (a .report); last = latest (steps c) (endingIn (a .report)) (l .last) })
+    (record { state = a .state; given = l .given; taken = l .taken; last = l .last })
+
+abbrev pub after : List ℕ → Call → Left → Left
+after program c l = joined c (outcome program (l .state) c) l
+
+abbrev pub callAll : List ℕ → List Call → Left → Left
+callAll program [] l = l
+callAll program (c ∷ cs) l = callAll program cs (after program c l)
+
+-- a state as start left it
+abbrev pub fresh : List ℕ → Left
+fresh state = record { state = state; given = 0; taken = 0; last = none }
