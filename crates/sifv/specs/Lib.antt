@@ -2,3 +2,8 @@ pub mod Value
 pub mod Slot
 pub mod Layout
 pub mod SlotLaws
+pub mod Seen
+pub mod Laws
+pub mod Items
+pub mod Checks
+pub mod Tables

@@ -1,2 +1,341 @@
+// Values, and value slots in lent bytes.
+ghost use mathlib.Core.Path.{_≡_};
+ghost use Prim.Native.Nat.{_+_, _*_, _≤_, _<_, min};
+ghost use mathlib.Core.Bool.{cond, _&&_};
+ghost use mathlib.Core.List.{[]};
+ghost use lib.Dec.{leb, ltb};
+ghost use lib.ListN.{length, getD};
+ghost use Rattle.sifv.specs.Value.{lookup};
+ghost use Rattle.lent.specs.Bytes.{part, splice};
+ghost use Rattle.sifv.specs.Slot.{zeros, kindOf, singleOf, singleOk, singlesOk, contents, encodeSlot, decodeSlot, slotOk};
+ghost use Rattle.sifv.specs.Seen.{shown, seen, plain, bare, headBytes, kindIn, wordIn, itemAt, setItem, entriesIn, found, boxBytes, keysOk, oneOk, arrOk, tabOk};
+
 // The bytes of a value slot (docs/FORMATS.md).
 pub const SLOT: usize = 256;
+
+// A value as the program holds it; the contents of an array and a table stay in their slot.
+// Empty: an empty register, or a name that is not set.
+pub enum SifVal {
+    Empty,
+    Num(f64),
+    Str(u64),
+    Bl(bool),
+    Null,
+    Arr(u64),
+    Tab(u64),
+}
+
+// A single value from its kind and its number.
+pub fn single(kind: u64, word: u64) -> SifVal
+    ensures { λ r. ⌜ r ≡ shown (singleOf kind word) ⌝ }
+{
+    if kind == 1 {
+        return SifVal::Num(numeric::from_bits(word));
+    }
+    if kind == 2 {
+        return SifVal::Str(word);
+    }
+    if kind == 3 {
+        return SifVal::Bl(word == 1);
+    }
+    SifVal::Null
+}
+
+pub fn kind_of(v: SifVal) -> u64
+    ensures { λ r. ⌜ (r ≡ kindIn v) × (r < 7) ⌝ }
+{
+    match v {
+        SifVal::Empty => 0,
+        SifVal::Num(_) => 1,
+        SifVal::Str(_) => 2,
+        SifVal::Bl(_) => 3,
+        SifVal::Null => 4,
+        SifVal::Arr(_) => 5,
+        SifVal::Tab(_) => 6,
+    }
+}
+
+fn flag(b: bool) -> u64
+    ensures { λ r. ⌜ r ≡ cond b 1 0 ⌝ }
+{
+    if b { 1 } else { 0 }
+}
+
+pub fn word_of(v: SifVal) -> u64
+    ensures { λ r. ⌜ r ≡ wordIn v ⌝ }
+{
+    match v {
+        SifVal::Empty => 0,
+        SifVal::Num(x) => numeric::bits_of(x),
+        SifVal::Str(t) => t,
+        SifVal::Bl(b) => flag(b),
+        SifVal::Null => 0,
+        SifVal::Arr(_) => 0,
+        SifVal::Tab(_) => 0,
+    }
+}
+
+fn least(a: u64, b: u64) -> u64
+    ensures { λ r. ⌜ r ≡ min a b ⌝ }
+{
+    if a < b { a } else { b }
+}
+
+// The value that the slot at byte at shows.
+pub fn get(s: &[u8], at: usize) -> SifVal
+    requires { ⌜ at + 256 ≤ length (now s) ⌝ }
+    ensures { λ r. ⌜ r ≡ seen (decodeSlot (part (now (s .entry)) at 256)) ⌝ }
+{
+    let kind = lent::wide(s[at]);
+    if kind == 0 {
+        return SifVal::Empty;
+    }
+    if kind <= 4 {
+        return single(kind, lent::get_u64(s, at + 8));
+    }
+    let n = lent::wide(s[at + 1]);
+    if kind == 5 {
+        return SifVal::Arr(least(n, 24));
+    }
+    if kind == 6 {
+        return SifVal::Tab(least(n, 16));
+    }
+    SifVal::Empty
+}
+
+// The first 16 bytes of a slot.
+fn put_head(s: &mut [u8], at: usize, kind: u64, len: u64, word: u64)
+    requires { ⌜ (at + 16 ≤ length (now s)) × (kind < 256) × (len < 256) ⌝ }
+    ensures { λ _. ⌜ now (s .exit) ≡ splice (now (s .entry)) at (headBytes kind len word) ⌝ }
+{
+    lent::put_u64(
+        s,
+        at,
+        kind * 0x100_0000_0000_0000 + len * 0x1_0000_0000_0000,
+    );
+    lent::put_u64(s, at + 8, word);
+}
+
+// A value without contents, written over the slot at byte at.
+pub fn put_single(s: &mut [u8], at: usize, v: SifVal)
+    requires { ⌜ at + 256 ≤ length (now s) ⌝ }
+    ensures { λ _. ⌜ now (s .exit) ≡ splice (now (s .entry)) at (encodeSlot (bare v)) ⌝ }
+{
+    put_head(s, at, kind_of(v), 0, word_of(v));
+    lent::zero(s, at + 16, 240);
+}
+
+// The same by 16 bytes, over a slot that has no contents either.
+pub fn put_over(s: &mut [u8], at: usize, v: SifVal)
+    requires { ⌜ (at + 256 ≤ length (now s)) × (part (now s) (at + 16) 240 ≡ zeros 240) ⌝ }
+    ensures { λ _. ⌜ now (s .exit) ≡ splice (now (s .entry)) at (encodeSlot (bare v)) ⌝ }
+{
+    put_head(s, at, kind_of(v), 0, word_of(v));
+}
+
+// The slot at byte from, written over the slot at byte to.
+pub fn move_slot(s: &mut [u8], from: usize, to: usize)
+    requires { ⌜ (from + 256 ≤ length (now s)) × (to + 256 ≤ length (now s)) ⌝ }
+    ensures { λ _. ⌜ now (s .exit) ≡ splice (now (s .entry)) to (part (now (s .entry)) from 256) ⌝ }
+{
+    let mut t = [0u8; 256];
+    let e = from + 256;
+    lent::copy(&mut t, 0, &s[from..e]);
+    lent::copy(s, to, &t);
+}
+
+// The same by 16 bytes, where the two slots have the same contents: none.
+pub fn move_over(s: &mut [u8], from: usize, to: usize)
+    requires { ⌜ (from + 256 ≤ length (now s)) × (to + 256 ≤ length (now s)) × (part (now s) (from + 16) 240 ≡ part (now s) (to + 16) 240) ⌝ }
+    ensures { λ _. ⌜ now (s .exit) ≡ splice (now (s .entry)) to (part (now (s .entry)) from 256) ⌝ }
+{
+    let mut t = [0u8; 16];
+    let e = from + 16;
+    lent::copy(&mut t, 0, &s[from..e]);
+    lent::copy(s, to, &t);
+}
+
+// Item i of the slot at byte at.
+pub fn get_item(s: &[u8], at: usize, i: usize) -> SifVal
+    requires { ⌜ (at + 256 ≤ length (now s)) × (i < 24) ⌝ }
+    ensures { λ r. ⌜ r ≡ shown (itemAt (part (now (s .entry)) at 256) i) ⌝ }
+{
+    let kind = lent::wide(s[at + (16 + i)]);
+    single(kind, lent::get_u64(s, at + (40 + i * 8)))
+}
+
+// The kind of a single value.
+pub fn item_kind(v: SifVal) -> u8
+    ensures { λ r. ⌜ r ≡ kindOf (plain v) ⌝ }
+{
+    match v {
+        SifVal::Empty => 4,
+        SifVal::Num(_) => 1,
+        SifVal::Str(_) => 2,
+        SifVal::Bl(_) => 3,
+        SifVal::Null => 4,
+        SifVal::Arr(_) => 4,
+        SifVal::Tab(_) => 4,
+    }
+}
+
+// A single value, written as item i of the slot at byte at.
+pub fn put_item(s: &mut [u8], at: usize, i: usize, v: SifVal)
+    requires { ⌜ (at + 256 ≤ length (now s)) × (i < 24) ⌝ }
+    ensures { λ _. ⌜ now (s .exit) ≡ splice (now (s .entry)) at (setItem (part (now (s .entry)) at 256) i (plain v)) ⌝ }
+{
+    let k = at + (16 + i);
+    s[k] = item_kind(v);
+    lent::put_u64(s, at + (40 + i * 8), word_of(v));
+}
+
+// The value of a key in the table at byte at, or Empty.
+pub fn get_entry(s: &[u8], at: usize, key: u64) -> SifVal
+    requires { ⌜ at + 256 ≤ length (now s) ⌝ }
+    ensures { λ r. ⌜ r ≡ found (lookup (entriesIn (min (getD (part (now (s .entry)) at 256) 1 0) 16) (part (now (s .entry)) at 256)) key) ⌝ }
+{
+    let n = least(lent::wide(s[at + 1]), 16) as usize;
+    let mut i = 0;
+    while i < n {
+        if lent::wide(s[at + (232 + i)]) == key {
+            return get_item(s, at, i);
+        }
+        i += 1;
+    }
+    SifVal::Empty
+}
+
+fn both(a: bool, b: bool) -> bool
+    ensures { λ r. ⌜ r ≡ (a && b) ⌝ }
+{
+    if a { b } else { false }
+}
+
+// Whether a value may be stored as a single one: a text's number is below 64.
+pub fn single_ok(v: SifVal) -> bool
+    ensures { λ r. ⌜ r ≡ singleOk (plain v) ⌝ }
+{
+    match v {
+        SifVal::Empty => true,
+        SifVal::Num(_) => true,
+        SifVal::Str(t) => t < 64,
+        SifVal::Bl(_) => true,
+        SifVal::Null => true,
+        SifVal::Arr(_) => true,
+        SifVal::Tab(_) => true,
+    }
+}
+
+// Whether the first n items of the slot at byte at may be stored.
+fn items_ok(s: &[u8], at: usize, n: usize) -> bool
+    requires { ⌜ (at + 256 ≤ length (now s)) × (n ≤ 24) ⌝ }
+    ensures { λ r. ⌜ r ≡ singlesOk (contents n (part (now (s .entry)) at 256)) ⌝ }
+{
+    let mut ok = true;
+    let mut i = 0;
+    while i < n {
+        ok = both(ok, single_ok(get_item(s, at, i)));
+        i += 1;
+    }
+    ok
+}
+
+// Whether a key is next or more, and below 64, and ok.
+fn key_ok(ok: bool, next: u64, k: u64) -> bool
+    ensures { λ r. ⌜ r ≡ (ok && (leb next k && ltb k 64)) ⌝ }
+{
+    if !ok {
+        return false;
+    }
+    if k < next {
+        return false;
+    }
+    k < 64
+}
+
+// Whether the first n keys of the slot at byte at ascend and are below 64.
+fn keys_ok(s: &[u8], at: usize, n: usize) -> bool
+    requires { ⌜ (at + 256 ≤ length (now s)) × (n ≤ 16) ⌝ }
+    ensures { λ r. ⌜ r ≡ keysOk 0 (part (now (s .entry)) (at + 232) n) ⌝ }
+{
+    let mut ok = true;
+    let mut next = 0;
+    let mut i = 0;
+    while i < n {
+        let k = lent::wide(s[at + 232 + i]);
+        ok = key_ok(ok, next, k);
+        next = k + 1;
+        i += 1;
+    }
+    ok
+}
+
+// The first n items of the slot at byte at, in their one form, in a slot of zeros.
+fn refill(t: &mut [u8], kind: u64, s: &[u8], at: usize, n: usize)
+    requires { ⌜ (now t ≡ zeros 256) × (at + 256 ≤ length (now s)) × (n ≤ 24) × (kind < 256) ⌝ }
+    ensures { λ _. ⌜ now (t .exit) ≡ boxBytes kind n (contents n (part (now (s .entry)) at 256)) [] ⌝ }
+{
+    put_head(t, 0, kind, n as u64, 0);
+    let mut i = 0;
+    while i < n {
+        put_item(t, 0, i, get_item(s, at, i));
+        i += 1;
+    }
+}
+
+// Whether the slot at byte at is the one form of the single value that it shows.
+fn one_ok(s: &[u8], at: usize) -> bool
+    requires { ⌜ at + 256 ≤ length (now s) ⌝ }
+    ensures { λ r. ⌜ r ≡ oneOk (part (now (s .entry)) at 256) ⌝ }
+{
+    let v = single(lent::wide(s[at]), lent::get_u64(s, at + 8));
+    let mut t = [0u8; 256];
+    put_over(&mut t, 0, v);
+    both(single_ok(v), lent::same(&t, 0, s, at, 256))
+}
+
+// The same of an array, and of a table.
+fn arr_ok(s: &[u8], at: usize) -> bool
+    requires { ⌜ at + 256 ≤ length (now s) ⌝ }
+    ensures { λ r. ⌜ r ≡ arrOk (part (now (s .entry)) at 256) ⌝ }
+{
+    let n = least(lent::wide(s[at + 1]), 24) as usize;
+    let mut t = [0u8; 256];
+    refill(&mut t, 5, s, at, n);
+    both(items_ok(s, at, n), lent::same(&t, 0, s, at, 256))
+}
+
+fn tab_ok(s: &[u8], at: usize) -> bool
+    requires { ⌜ at + 256 ≤ length (now s) ⌝ }
+    ensures { λ r. ⌜ r ≡ tabOk (part (now (s .entry)) at 256) ⌝ }
+{
+    let n = least(lent::wide(s[at + 1]), 16) as usize;
+    let mut t = [0u8; 256];
+    refill(&mut t, 6, s, at, n);
+    let a = at + 232;
+    let e = a + n;
+    lent::copy(&mut t, 232, &s[a..e]);
+    let ok = both(keys_ok(s, at, n), items_ok(s, at, n));
+    both(ok, lent::same(&t, 0, s, at, 256))
+}
+
+// Whether the slot at byte at is the one form of a value that may be stored.
+pub fn slot_ok(s: &[u8], at: usize) -> bool
+    requires { ⌜ at + 256 ≤ length (now s) ⌝ }
+    ensures { λ r. ⌜ r ≡ slotOk (part (now (s .entry)) at 256) ⌝ }
+{
+    let kind = lent::wide(s[at]);
+    if kind == 0 {
+        return lent::all_zero(s, at, 256);
+    }
+    if kind <= 4 {
+        return one_ok(s, at);
+    }
+    if kind == 5 {
+        return arr_ok(s, at);
+    }
+    if kind == 6 {
+        return tab_ok(s, at);
+    }
+    false
+}
