@@ -27,11 +27,11 @@ use Rattle.tables.specs.ProgramBytes.{encodeProgram, decodeProgram}
 use Rattle.tables.specs.ProgramLaws.{items, codeOk, programOk, program-behind}
 use Rattle.ast.specs.Tree.{Lit, Val, Text, Truth, Expr, Literal, Name, BinaryExpr, UnaryExpr, VarAssign, ArrayMut, FnCall, Rhs, Expression, Table, Array, ArrayAccess}
 use Rattle.ast.specs.Tree.{Exprs, noExprs, moreExprs, Items, noItems, moreItems, Source, OverName, OverCall}
-use Rattle.ast.specs.Flat.{flatLits, flatNames, flatExpr, flatRhs, flatExprs, flatItems, flatSource, flatStmt, flatStmts, flatRest, flat}
+use Rattle.ast.specs.Flat.{flatLits, flatNames, flatExpr, flatRhs, flatExprs, flatItems, flatSource, flatStmt, flatStmts, flatRest, flat, exprCount}
 use Rattle.compiler.specs.Token.{literal, assigned, binKind, unKind}
 use Rattle.ast.specs.Tree.{Stmt, Block, IfStmt, ForStmt, Return, ReturnExpr, ExprStmt, VarDecl, VarInit, FnDecl, Stmts, noStmts, moreStmts, Rest, Else, Elif}
 use Rattle.compiler.specs.Lower.{Section, Decl, Main, Place, Event, Reg, Push, Below, before, prev, argRegs, assignRegs, litRegs, exprRegs, rhsRegs, paramRegs, itemRegs, sourceRegs, stmtRegs, stmtsRegs, restRegs}
-use Rattle.compiler.specs.Lower.{elseLabels, stmtLabels, stmtsLabels, restLabels, push, load, lowerLit, lowerArg, lowerAssign, lowerCall, count, lowerExpr, lowerRhs, lowerParams, lowerItems}
+use Rattle.compiler.specs.Lower.{elseLabels, stmtLabels, stmtsLabels, restLabels, push, load, lowerLit, lowerArg, lowerAssign, lowerCall, lowerExpr, lowerRhs, lowerParams, lowerItems}
 use Rattle.compiler.specs.Lower.{orNop, lowerArm, lowerSource, sourceName, inner, lowerFor, lowerPops, declaring, lowerStmt, lowerStmts, lowerRest, top, lowerTree, refusal, only, pushed, programOf, lowered, decide, lower}
 use Rattle.compiler.specs.Within.{LitIn, ExprIn, RhsIn, ExprsIn, ItemsIn, SourceIn, StmtIn, StmtsIn, RestIn}
 
@@ -227,7 +227,7 @@ module _ (w : Place) (n : ℕ) (hn : n ≤ 1023) where
         (λ g. (and-both (label-in n hn) (and-both (text-in x (h .0)) (and-both (reg-in (prev p) (omega arith)) (reg-in (prev q) (omega arith)))), tt)))
         (omega arith)) (omega arith)) (omega arith))
         (omega arith) (simp length-append (omega arith))
-    expr-emits (FnCall f ps) h r = so (call-emits f (h .0) (count ps) (h .1) (r + paramRegs ps) (params-emits ps (h .2) r) refl) refl (omega arith)
+    expr-emits (FnCall f ps) h r = so (call-emits f (h .0) (exprCount ps) (h .1) (r + paramRegs ps) (params-emits ps (h .2) r) refl) refl (omega arith)
 
     rhs-emits : (k : Rhs) → RhsIn k → (x : ℕ) → x < 64 → (r : ℕ) → Emits r (rhsRegs k) (length (flatRhs k)) (lowerRhs k x w n r)
     rhs-emits (Expression e) h x g r = assign-emits e h x g (r + exprRegs e) (expr-emits e h r) refl
@@ -275,7 +275,7 @@ block-emits (moreStmts s k) w n r h a = a
 source-emits : (s : Source) → SourceIn s → (w : Place) (n r : ℕ) → n ≤ 1023 → Emits r (sourceRegs s) (length (flatSource s)) (lowerSource s w n r)
 source-emits (OverName a) h w n r hn = so (nothing r) refl (omega arith)
 source-emits (OverCall f ps) h w n r hn =
-    so (store-emits w n hn 0 (omega arith) (r + (paramRegs ps + 1)) (call-emits w n hn f (h .0) (count ps) (h .1) (r + paramRegs ps) (params-emits w n hn ps (h .2) r) refl) refl)
+    so (store-emits w n hn 0 (omega arith) (r + (paramRegs ps + 1)) (call-emits w n hn f (h .0) (exprCount ps) (h .1) (r + paramRegs ps) (params-emits w n hn ps (h .2) r) refl) refl)
     refl (omega arith)
 
 source-name : (s : Source) → SourceIn s → sourceName s < 64

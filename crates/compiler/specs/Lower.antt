@@ -13,6 +13,7 @@ use Rattle.opc.specs.Op.{Op, Binary, Unary, Ldc, Ldn, Ldas, Ldav, Upda, Stc, St
 use Rattle.tables.specs.Tables.{Program}
 use Rattle.ast.specs.Tree.{Lit, Val, Text, Truth, Expr, Literal, Name, BinaryExpr, UnaryExpr, VarAssign, ArrayMut, FnCall, Rhs, Expression, Table, Array, ArrayAccess}
 use Rattle.ast.specs.Tree.{Exprs, noExprs, moreExprs, Items, noItems, moreItems, Source, OverName, OverCall}
+use Rattle.ast.specs.Flat.{exprCount}
 use Rattle.compiler.specs.Token.{literal, assigned, binKind, unKind}
 use Rattle.ast.specs.Tree.{Stmt, Block, IfStmt, ForStmt, Return, ReturnExpr, ExprStmt, VarDecl, VarInit, FnDecl, Stmts, noStmts, moreStmts, Rest, Else, Elif}
 
@@ -186,10 +187,6 @@ lowerAssign w n x (FnCall f ps) es q = es ++ (push w n (Str (prev q) x) ∷ [])
 abbrev pub lowerCall : Place → ℕ → ℕ → List Event → ℕ → ℕ → List Event
 lowerCall w n f ps k q = ps ++ (push w n (Call f k) ∷ load w n (FnStackPop q))
 
-abbrev pub count : Exprs → ℕ
-count noExprs = 0
-count (moreExprs e ps) = suc (count ps)
-
 abbrev mutual
   pub lowerExpr : Expr → Place → ℕ → ℕ → List Event
   lowerExpr (Literal l) w n r = lowerLit w n l r
@@ -209,7 +206,7 @@ abbrev mutual
   lowerExpr (ArrayMut x i v) w n r =
       let q = r + exprRegs v in
       lowerExpr v w n r ++ (before q ++ (lowerExpr i w n q ++ (push w n (Upda x (prev (q + exprRegs i)) (prev q)) ∷ [])))
-  lowerExpr (FnCall f ps) w n r = lowerCall w n f (lowerParams ps w n r) (count ps) (r + paramRegs ps)
+  lowerExpr (FnCall f ps) w n r = lowerCall w n f (lowerParams ps w n r) (exprCount ps) (r + paramRegs ps)
 
   -- `assign`: a right side, assigned to x
   pub lowerRhs : Rhs → ℕ → Place → ℕ → ℕ → List Event
@@ -250,7 +247,7 @@ lowerArm w n c q b m end = c ++ (push w n (JmpCnd Jmpf (prev q) (m + 1)) ∷ (b 
 abbrev pub lowerSource : Source → Place → ℕ → ℕ → List Event
 lowerSource (OverName a) w n r = []
 lowerSource (OverCall f ps) w n r =
-    lowerCall w n f (lowerParams ps w n r) (count ps) (r + paramRegs ps) ++ (push w n (Str (prev (r + sourceRegs (OverCall f ps))) 0) ∷ [])
+    lowerCall w n f (lowerParams ps w n r) (exprCount ps) (r + paramRegs ps) ++ (push w n (Str (prev (r + sourceRegs (OverCall f ps))) 0) ∷ [])
 
 abbrev pub sourceName : Source → ℕ
 sourceName (OverName a) = a

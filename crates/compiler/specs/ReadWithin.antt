@@ -19,7 +19,6 @@ use Rattle.ast.specs.Flat.{flatNames, flatExpr, flatRhs, flatExprs, exprCount, 
 use Rattle.ast.specs.Limits.{everyLit, everyLits, everyName, everyExpr, everyRhs, everyExprs, everyItems, everySource, everyStmt, every, everyRest}
 use Rattle.ast.specs.File.{nodeCount, textCount, readTree, Tree}
 use Rattle.ast.specs.Reading.{read-flat, read-names, read-limits}
-use Rattle.compiler.specs.Lower.{count}
 use Rattle.compiler.specs.Within.{LitIn, ExprIn, RhsIn, ExprsIn, ItemsIn, SourceIn, StmtIn, StmtsIn, RestIn}
 
 -- ---- lists of which something holds
@@ -44,12 +43,8 @@ small-nodes : (ns : List Node) → AreBytes (entryBytes ns) → Each Small ns
 small-nodes [] h = none
 small-nodes (node k c b ∷ ns) h = more (each-first (each-rest h)) (small-nodes ns (each-rest (each-rest h)))
 
-same-count : (ps : Exprs) → exprCount ps ≡ count ps
-same-count noExprs = refl
-same-count (moreExprs e ps) = ap suc (same-count ps)
-
-few : (ps : Exprs) → exprCount ps < 256 → count ps ≤ 255
-few ps h = omega (arith, same-count ps)
+few : (ps : Exprs) → exprCount ps < 256 → exprCount ps ≤ 255
+few ps h = omega arith
 
 -- ---- from the tests of texts (w) and of structure (o) and the nodes' child counts (s)
 

@@ -8,7 +8,7 @@ use Rattle.lent.specs.Bytes.{Each}
 use Rattle.ast.specs.Tree.{Lit, Val, Text, Truth, Expr, Literal, Name, BinaryExpr, UnaryExpr, VarAssign, ArrayMut, FnCall, Rhs, Expression, Table, Array, ArrayAccess}
 use Rattle.ast.specs.Tree.{Exprs, noExprs, moreExprs, Items, noItems, moreItems, Source, OverName, OverCall}
 use Rattle.ast.specs.Tree.{Stmt, Block, IfStmt, ForStmt, Return, ReturnExpr, ExprStmt, VarDecl, VarInit, FnDecl, Stmts, noStmts, moreStmts, Rest, Else, Elif}
-use Rattle.compiler.specs.Lower.{count}
+use Rattle.ast.specs.Flat.{exprCount}
 
 abbrev pub LitIn : Lit → Type 0
 LitIn (Val b) = T true
@@ -23,7 +23,7 @@ abbrev mutual
   ExprIn (UnaryExpr t a) = ExprIn a
   ExprIn (VarAssign x r) = (x < 64) × RhsIn r
   ExprIn (ArrayMut x i v) = (x < 64) × ExprIn i × ExprIn v
-  ExprIn (FnCall f ps) = (f < 64) × (count ps ≤ 255) × ExprsIn ps
+  ExprIn (FnCall f ps) = (f < 64) × (exprCount ps ≤ 255) × ExprsIn ps
 
   pub RhsIn : Rhs → Type 0
   RhsIn (Expression e) = ExprIn e
@@ -41,7 +41,7 @@ abbrev mutual
 
 abbrev pub SourceIn : Source → Type 0
 SourceIn (OverName a) = a < 64
-SourceIn (OverCall f ps) = (f < 64) × (count ps ≤ 255) × ExprsIn ps
+SourceIn (OverCall f ps) = (f < 64) × (exprCount ps ≤ 255) × ExprsIn ps
 
 abbrev mutual
   pub StmtIn : Stmt → Type 0
