@@ -1,4 +1,3 @@
-mod Samples
 mod Scan
 mod Table
 mod Compare

@@ -1,8 +1,7 @@
 // The bodies: the sizes that the contents give them, and the nodes' text numbers and operators.
 ghost use mathlib.Core.Path.{_≡_};
-ghost use mathlib.Core.Bool.{_&&_};
 ghost use mathlib.Core.List.{map};
-ghost use Prim.Native.Nat.{_+_, _≤_, _<_};
+ghost use Prim.Native.Nat.{_≤_, _<_};
 ghost use lib.ListN.{length, take};
 ghost use Rattle.ast.specs.Node.{kindOf, body, bodySize};
 ghost use Rattle.ast.specs.File.{sum, firsts, fieldOk, all, nodeOk, nodesFrom};

@@ -1,10 +1,11 @@
-// 4: the structure. One recursive pass over a subtree; the remaining depth falls.
+// 4: the structure. One recursive pass over a subtree checks what may stand where, the child counts,
+// the depth and the loops nested, the items and keys; the remaining depth falls. A node's subtree is
+// the part of the contents from its own entry on, with the bodies from its own body on.
 ghost use mathlib.Core.Path.{_≡_};
-ghost use mathlib.Core.Bool.{false, not, _&&_};
+ghost use mathlib.Core.Bool.{false};
 ghost use mathlib.Core.List.{List};
 ghost use Prim.Native.Nat.{ℕ, _+_, _-_, _^_, _≤_, _<_};
-ghost use lib.Dec.{leb, eqb};
-ghost use lib.ListN.{length, getD};
+ghost use lib.ListN.{getD};
 ghost use Rattle.ast.specs.Node.{Node, kindOf};
 ghost use Rattle.ast.specs.File.{nodesFrom};
 ghost use Rattle.ast.specs.Structure.{parse};
@@ -50,6 +51,7 @@ const EXPRESSION: u64 = 0xffc000;
 
 const RIGHT_SIDE: u64 = 0xfff400;
 
+// "A node where it may not stand".
 fn may_stand(place: u64, kind: u64) -> bool
     requires { ⌜ kind < 64 ⌝ }
     ensures { λ r. ⌜ r ≡ stands place kind ⌝ }
@@ -57,12 +59,14 @@ fn may_stand(place: u64, kind: u64) -> bool
     (place >> kind) % 2 == 1
 }
 
+// a less b, at least 0.
 fn minus(a: u64, b: u64) -> u64
     ensures { λ r. ⌜ r ≡ a - b ⌝ }
 {
     if b <= a { a - b } else { 0 }
 }
 
+// Children of one kind of place alone.
 fn only_first(fits: bool, place: u64, first: u64, loops: u64, inside: bool) -> Plan
     ensures { λ r. ⌜ r ≡ plain fits place first loops inside ⌝ }
 {
@@ -78,6 +82,7 @@ fn only_first(fits: bool, place: u64, first: u64, loops: u64, inside: bool) -> P
     }
 }
 
+// Children of one kind of place, then a Block.
 fn then_block(fits: bool, place: u64, first: u64, loops: u64, inside: bool) -> Plan
     ensures { λ r. ⌜ r ≡ headed fits place first loops inside ⌝ }
 {
@@ -93,6 +98,7 @@ fn then_block(fits: bool, place: u64, first: u64, loops: u64, inside: bool) -> P
     }
 }
 
+// Condition, Block, Elifs, else statements.
 fn if_plan(count: u64, elifs: u64, loops: u64, inside: bool) -> Plan
     requires { ⌜ elifs < 256 ⌝ }
     ensures { λ r. ⌜ r ≡ branching count elifs loops inside ⌝ }
@@ -111,16 +117,22 @@ fn if_plan(count: u64, elifs: u64, loops: u64, inside: bool) -> Plan
     }
 }
 
-// Document 01's column "Children", with the limits on loops, functions, items.
+// Document 01's column "Children", with the limits that a node tests itself. loops is how many may
+// still be nested, inside whether a function is around.
 fn plan_of(kind: u8, count: u64, elifs: u64, loops: u64, inside: bool) -> Plan
     requires { ⌜ (1 ≤ kind) × (kind < 24) × (elifs < 256) ⌝ }
     ensures { λ r. ⌜ r ≡ planOf (kindOf kind) count elifs loops inside ⌝ }
 {
     match kind {
+        // Program
         1 => only_first(true, STATEMENT, count, loops, inside),
+        // Block
         2 => only_first(true, STATEMENT, count, loops, inside),
+        // If
         3 => if_plan(count, elifs, loops, inside),
+        // Elif
         4 => then_block(count == 2, EXPRESSION, 1, loops, inside),
+        // For: at most 8 nested
         5 => then_block(
             (count == 2) & (1 <= loops),
             NAME_OR_CALL,
@@ -128,27 +140,46 @@ fn plan_of(kind: u8, count: u64, elifs: u64, loops: u64, inside: bool) -> Plan
             minus(loops, 1),
             inside,
         ),
+        // Return
         6 => only_first(count <= 1, EXPRESSION, count, loops, inside),
+        // ExprStmt
         7 => only_first(count == 1, EXPRESSION, 1, loops, inside),
+        // VarDecl
         8 => only_first(count <= 1, RIGHT_SIDE, count, loops, inside),
+        // FnDecl: none inside another
         9 => then_block((1 <= count) & !inside, NAME, minus(count, 1), loops, true),
+        // Table: at most 16 Items
         10 => only_first(count <= 16, ITEM, count, loops, inside),
+        // Item
         11 => only_first(count == 1, EXPRESSION, 1, loops, inside),
+        // Array: at most 24 items
         12 => only_first(count <= 24, LITERAL, count, loops, inside),
+        // ArrayAccess
         13 => only_first(count == 1, EXPRESSION, 1, loops, inside),
+        // ArrayMut
         14 => only_first(count == 2, EXPRESSION, 2, loops, inside),
+        // Call
         15 => only_first(true, EXPRESSION, count, loops, inside),
+        // Assign
         16 => only_first(count == 1, RIGHT_SIDE, 1, loops, inside),
+        // Binary
         17 => only_first(count == 2, EXPRESSION, 2, loops, inside),
+        // Unary
         18 => only_first(count == 1, EXPRESSION, 1, loops, inside),
+        // Num
         19 => only_first(count == 0, EXPRESSION, 0, loops, inside),
+        // Text
         20 => only_first(count == 0, EXPRESSION, 0, loops, inside),
+        // Name
         21 => only_first(count == 0, EXPRESSION, 0, loops, inside),
+        // True
         22 => only_first(count == 0, EXPRESSION, 0, loops, inside),
+        // False
         _ => only_first(count == 0, EXPRESSION, 0, loops, inside),
     }
 }
 
+// An If's Elif count: the first byte of its body.
 fn first_byte(bodies: &[u8]) -> u64
     ensures { λ r. ⌜ (r ≡ getD (now (bodies .entry)) 0 0) × (r < 256) ⌝ }
 {
@@ -158,6 +189,7 @@ fn first_byte(bodies: &[u8]) -> u64
     lent::wide(bodies[0])
 }
 
+// A node's own entry and body are taken, if its child count fits.
 fn begin(fits: bool, size: usize) -> Checked
     ensures { λ r. ⌜ r ≡ began fits size ⌝ }
 {
@@ -178,7 +210,7 @@ fn shift(entries: usize, bodies: usize, r: Checked) -> Checked
     Checked::Taken(entries + x, bodies + y)
 }
 
-// The keys of one table: bit k for each key k before.
+// The keys of one table are a mark: bit k for each key k before.
 fn bit(k: u64) -> u64
     requires { ⌜ k < 64 ⌝ }
     ensures { λ r. ⌜ r ≡ 2 ^ k ⌝ }
@@ -285,6 +317,7 @@ fn items(n: u64, contents: &[u8], bodies: &[u8], depth: u64, p: Checked) -> Chec
     q
 }
 
+// A node's children, one part of the plan after the other.
 fn kids(plan: Plan, contents: &[u8], bodies: &[u8], depth: u64, p: Checked) -> Checked
     requires { ⌜ ((x : Left) × Agrees (now contents) (now bodies) x p) ⌝ }
     ensures { λ r. ⌜ ((x : Left) → Agrees (now (contents .entry)) (now (bodies .entry)) x p → Agrees (now (contents .entry)) (now (bodies .entry)) (children (λ q m g ms. pass depth q m g ms) plan x) r) ⌝ }

@@ -1,7 +1,7 @@
 // 3: a text with a byte outside 32 to 126, out of order, text 0 not `fortmp`, or a later text equal to it.
 ghost use mathlib.Core.Path.{_≡_};
 ghost use mathlib.Core.Bool.{not, _&&_};
-ghost use Prim.Native.Nat.{_≤_, _<_};
+ghost use Prim.Native.Nat.{_≤_};
 ghost use lib.ListN.{length};
 ghost use Rattle.lent.specs.Bytes.{sameBytes};
 ghost use Rattle.ast.specs.File.{sum, all, between, cut, fortmp, before, ascending, ordered};
