@@ -2,10 +2,11 @@
 
 use crate::reader;
 use crate::rng::Rng;
-use crate::tree::{num, program, set_array, Node, Parts};
+use crate::tree::{is_plain, num, program, set_array, Node, Parts};
 
 extern "C" {
     fn leaf_read(file: *const u8, length: usize) -> u64;
+    fn leaf_plain(file: *const u8, length: usize) -> bool;
 }
 
 /// The refusal number of the proved reader, or 0.
@@ -16,6 +17,11 @@ pub fn ours(file: &[u8]) -> u64 {
 /// The refusal number of the oracle's reader, or 0.
 pub fn theirs(file: &[u8]) -> u64 {
     reader::read(file).err().map_or(0, u64::from)
+}
+
+/// Whether a file holds a plain script, by the proved code and by the oracle's.
+fn plain(file: &[u8]) -> [bool; 2] {
+    [unsafe { leaf_plain(file.as_ptr(), file.len()) }, reader::read(file).is_ok_and(|tree| is_plain(&tree))]
 }
 
 fn length(bytes: &[u8]) -> usize {
@@ -66,9 +72,14 @@ fn damaged(file: &[u8], rng: &mut Rng) -> Vec<u8> {
 pub fn compare(path: &str, seed: u64, count: u64) -> Result<(), String> {
     let bytes = std::fs::read(path).map_err(|e| format!("{path}: {e}"))?;
     let cases = stored(&bytes);
-    let mut differences = 0;
+    let (mut differences, mut plains) = (0, 0);
+    let mut both = |file: &[u8]| {
+        let [a, b] = plain(file);
+        plains += u64::from(b);
+        u64::from(a != b)
+    };
     for (file, listing) in &cases {
-        differences += u64::from(ours(file) != expected(listing) || theirs(file) != expected(listing));
+        differences += both(file) + u64::from(ours(file) != expected(listing) || theirs(file) != expected(listing));
     }
     let mut answers = [0u64; 6];
     for item in 0..count {
@@ -76,9 +87,9 @@ pub fn compare(path: &str, seed: u64, count: u64) -> Result<(), String> {
         let copy = damaged(rng.pick(&cases).0, &mut rng);
         let answer = ours(&copy);
         answers[answer.min(5) as usize] += 1;
-        differences += u64::from(answer != theirs(&copy));
+        differences += both(&copy) + u64::from(answer != theirs(&copy));
     }
-    println!("files: {} stored cases, {count} damaged copies (accepted and refused 1 to 5: {answers:?}), {differences} differences", cases.len());
+    println!("files: {} stored cases, {count} damaged copies (accepted and refused 1 to 5: {answers:?}), {plains} plain scripts, {differences} differences", cases.len());
     if differences == 0 { Ok(()) } else { Err(String::from("the readers differ")) }
 }
 

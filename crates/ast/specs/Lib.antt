@@ -13,3 +13,6 @@ pub mod Reading
 pub mod Room
 pub mod Pass
 pub mod Answer
+pub mod Under
+pub mod Preorder
+pub mod PlainFile

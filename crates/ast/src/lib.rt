@@ -1,6 +1,8 @@
 // The tree file (document 01, "The tree file"): the refusals 1 to 5.
 mod bodies;
 mod contents;
+pub mod node;
+pub mod plain;
 mod structure;
 mod texts;
 

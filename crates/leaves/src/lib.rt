@@ -6,6 +6,7 @@ ghost use Rattle.numeric.specs.Patterns.{bitsOf};
 ghost use Rattle.numeric.specs.Remainder as Rule;
 ghost use Rattle.ast.specs.File.{readTree};
 ghost use Rattle.ast.specs.Answer.{answerOf};
+ghost use Rattle.ast.specs.Under.{plainOf};
 
 #[no_mangle]
 pub extern "C" fn leaf_index_of(x: f64) -> u64
@@ -40,4 +41,11 @@ pub extern "C" fn leaf_read(file: &[u8]) -> u64
     ensures { λ r. ⌜ r ≡ answerOf (readTree (now (file .entry))) ⌝ }
 {
     ast::read(file)
+}
+
+#[no_mangle]
+pub extern "C" fn leaf_plain(file: &[u8]) -> bool
+    ensures { λ r. ⌜ r ≡ plainOf (readTree (now (file .entry))) ⌝ }
+{
+    ast::plain::plain(file)
 }

@@ -1,6 +1,6 @@
 // Values, and value slots in lent bytes.
 ghost use mathlib.Core.Path.{_≡_};
-ghost use Prim.Native.Nat.{_+_, _*_, _≤_, _<_, min};
+ghost use Prim.Native.Nat.{_+_, _^_, _≤_, _<_, min};
 ghost use mathlib.Core.Bool.{cond, _&&_};
 ghost use mathlib.Core.List.{[]};
 ghost use lib.Dec.{leb, ltb};
@@ -8,7 +8,7 @@ ghost use lib.ListN.{length, getD};
 ghost use Rattle.sifv.specs.Value.{lookup};
 ghost use Rattle.lent.specs.Bytes.{part, splice};
 ghost use Rattle.sifv.specs.Slot.{zeros, kindOf, singleOf, singleOk, singlesOk, contents, encodeSlot, decodeSlot, slotOk};
-ghost use Rattle.sifv.specs.Seen.{shown, seen, plain, bare, headBytes, kindIn, wordIn, itemAt, setItem, entriesIn, found, boxBytes, keysOk, oneOk, arrOk, tabOk};
+ghost use Rattle.sifv.specs.Seen.{shown, seen, plain, bare, headBytes, kindIn, wordIn, Kept, itemAt, setItem, entriesIn, found, boxBytes, keysOk, oneOk, arrOk, tabOk};
 
 // The bytes of a value slot (docs/FORMATS.md).
 pub const SLOT: usize = 256;
@@ -61,8 +61,8 @@ fn flag(b: bool) -> u64
     if b { 1 } else { 0 }
 }
 
-pub fn word_of(v: SifVal) -> u64
-    ensures { λ r. ⌜ r ≡ wordIn v ⌝ }
+fn raw_word(v: SifVal) -> u64
+    ensures { λ r. ⌜ (r ≡ wordIn v) × (singleOf (kindOf (plain v)) r ≡ plain v) ⌝ }
 {
     match v {
         SifVal::Empty => 0,
@@ -73,6 +73,20 @@ pub fn word_of(v: SifVal) -> u64
         SifVal::Arr(_) => 0,
         SifVal::Tab(_) => 0,
     }
+}
+
+fn whole(w: u64) -> u64
+    ensures { λ r. ⌜ (r ≡ w) × (r < 2 ^ 64) ⌝ }
+{
+    w
+}
+
+// The number of a value. The second fact is for callers: it follows from v only where its number
+// fits its format, which a caller need not show.
+pub fn word_of(v: SifVal) -> u64
+    ensures { λ r. ⌜ (r ≡ wordIn v) × Kept (plain v) ⌝ }
+{
+    whole(raw_word(v))
 }
 
 fn least(a: u64, b: u64) -> u64
@@ -116,10 +130,10 @@ fn put_head(s: &mut [u8], at: usize, kind: u64, len: u64, word: u64)
     lent::put_u64(s, at + 8, word);
 }
 
-// A value without contents, written over the slot at byte at.
+// A value without contents, written over the slot at byte at. It is read again.
 pub fn put_single(s: &mut [u8], at: usize, v: SifVal)
     requires { ⌜ at + 256 ≤ length (now s) ⌝ }
-    ensures { λ _. ⌜ now (s .exit) ≡ splice (now (s .entry)) at (encodeSlot (bare v)) ⌝ }
+    ensures { λ _. ⌜ (now (s .exit) ≡ splice (now (s .entry)) at (encodeSlot (bare v))) × (decodeSlot (encodeSlot (bare v)) ≡ bare v) ⌝ }
 {
     put_head(s, at, kind_of(v), 0, word_of(v));
     lent::zero(s, at + 16, 240);
@@ -128,7 +142,7 @@ pub fn put_single(s: &mut [u8], at: usize, v: SifVal)
 // The same by 16 bytes, over a slot that has no contents either.
 pub fn put_over(s: &mut [u8], at: usize, v: SifVal)
     requires { ⌜ (at + 256 ≤ length (now s)) × (part (now s) (at + 16) 240 ≡ zeros 240) ⌝ }
-    ensures { λ _. ⌜ now (s .exit) ≡ splice (now (s .entry)) at (encodeSlot (bare v)) ⌝ }
+    ensures { λ _. ⌜ (now (s .exit) ≡ splice (now (s .entry)) at (encodeSlot (bare v))) × (decodeSlot (encodeSlot (bare v)) ≡ bare v) ⌝ }
 {
     put_head(s, at, kind_of(v), 0, word_of(v));
 }
@@ -182,7 +196,7 @@ pub fn item_kind(v: SifVal) -> u8
 // A single value, written as item i of the slot at byte at.
 pub fn put_item(s: &mut [u8], at: usize, i: usize, v: SifVal)
     requires { ⌜ (at + 256 ≤ length (now s)) × (i < 24) ⌝ }
-    ensures { λ _. ⌜ now (s .exit) ≡ splice (now (s .entry)) at (setItem (part (now (s .entry)) at 256) i (plain v)) ⌝ }
+    ensures { λ _. ⌜ (now (s .exit) ≡ splice (now (s .entry)) at (setItem (part (now (s .entry)) at 256) i (plain v))) × Kept (plain v) ⌝ }
 {
     let k = at + (16 + i);
     s[k] = item_kind(v);
