@@ -1,21 +1,21 @@
 -- What is proved of plain scripts that lower: the started program does what the walk of the tree says, in one run or in any list of runs. The lemmas are in
 -- Simulation. Assumes nothing.
-use Prim.Native.Nat.{ℕ, zero, suc, _+_, _-_, _^_, _≤_, _<_}
+use Prim.Native.Nat.{ℕ, zero, suc, _+_, _-_, _^_, max, _≤_, _<_}
 use native.Mathlib.Nat.{le-trans, zero-add}
 use native.Mathlib.Omega.{arith}
-use mathlib.Core.Path.{_≡_, refl, ap, _∙_, subst}
+use mathlib.Core.Path.{_≡_, refl, sym, ap, _∙_, subst}
 use mathlib.Core.List.{List}
 use mathlib.Core.Option.{none, some}
 use lib.Dec.{T}
 use Rattle.tables.specs.Tables.{Program}
 use Rattle.ast.specs.Tree.{Stmts}
 use Rattle.ast.specs.Plain.{plain}
-use Rattle.compiler.specs.Lower.{lowered, lower}
+use Rattle.compiler.specs.Lower.{Main, lowerTree, pushed, lowered, lower}
 use Rattle.vm.specs.RuntimeErr.{RuntimeErr}
 use Rattle.vm.specs.Machine.{step, initial, State, started, Stopped, Ran, run}
 use Rattle.walk.specs.Walk.{Walked, Fine, Halt, walk, walkCount, walkNames, walkEnd}
-use Rattle.walk.specs.Bound.{longest, bound}
-use Rattle.walk.specs.Bounded.{walk-within, walk-stops-within}
+use Rattle.walk.specs.Bound.{longest, total, bound}
+use Rattle.walk.specs.Bounded.{walk-within, walk-stops-within, plain-code}
 use Rattle.walk.specs.Runs.{ending, needed, Runs, runs, sum}
 use Rattle.walk.specs.Simulation.Sound.{program-is, script}
 use Rattle.walk.specs.Simulation.Turns.{Reach, reach, needed-some, needed-least, needed-most, once, runs-once, beyond, reached, still, answers, run-count}
@@ -73,6 +73,23 @@ simulation-run l n h = ended (leads l .there) n h
 pub simulation-next : {t : Stmts} {p : Program} → Lowers t p → Ended (walk t) (run p (suc (walkCount (walk t))) (started p))
 simulation-next {t} l = simulation-run l (suc (walkCount (walk t))) (needed-most (walk t))
 
+-- ---- the bound
+
+-- The walk's count is at most the bound, and less where the walk stops. The bound is a sum over what the lowering pushed, and that is the program.
+pub record Bounds (t : Stmts) (p : Program) : Type 0 where
+  pub most : walkCount (walk t) ≤ bound t
+  pub fewer : (r : RuntimeErr) → walkEnd (walk t) ≡ Stopped r → walkCount (walk t) < bound t
+  pub sum-over : bound t ≡ total (max 1 (longest t)) (lowerTree t)
+  pub program : pushed Main (lowerTree t) ≡ p .code
+
+pub bounds : {t : Stmts} {p : Program} → Lowers t p → Bounds t p
+bounds {t} l = record {
+    most = walk-within t (l .isPlain);
+    fewer = λ r. walk-stops-within t r (l .isPlain);
+    sum-over = refl;
+    program = sym (plain-code t (l .isPlain)) ∙ ap (λ (x : Program). x .code) (program-is t (l .lowers));
+  }
+
 -- ---- any list of runs
 
 -- What a list of runs, given some steps in all, leaves: never more steps than the walk's; and where they were given at least b steps, the walk's count, names
@@ -109,4 +126,4 @@ enough (Halt n e r) b h g = g r refl
 -- Demand 3 for the calls of run: after every list of them the count is at most the bound; where they were given at least the bound as steps, in whatever
 -- portions, names, values, count and the last answer are the walk's.
 pub plain-runs : {t : Stmts} {p : Program} → Lowers t p → (ns : List ℕ) → Served (walk t) (bound t) (sum ns) (runs p ns)
-plain-runs {t} l ns = any-runs l (bound t) (enough (walk t) (bound t) (walk-within t (l .isPlain)) (λ r. walk-stops-within t r (l .isPlain))) ns
+plain-runs {t} l ns = let b = bounds l in any-runs l (bound t) (enough (walk t) (bound t) (b .most) (b .fewer)) ns
