@@ -84,11 +84,11 @@ pub record Bounds (t : Stmts) (p : Program) : Type 0 where
 
 pub bounds : {t : Stmts} {p : Program} → Lowers t p → Bounds t p
 bounds {t} l = record {
-    most = walk-within t (l .isPlain);
-    fewer = λ r. walk-stops-within t r (l .isPlain);
-    sum-over = refl;
-    program = sym (plain-code t (l .isPlain)) ∙ ap (λ (x : Program). x .code) (program-is t (l .lowers));
-  }
+  most = walk-within t (l .isPlain);
+  fewer = λ r. walk-stops-within t r (l .isPlain);
+  sum-over = refl;
+  program = sym (plain-code t (l .isPlain)) ∙ ap (λ (x : Program). x .code) (program-is t (l .lowers));
+}
 
 -- ---- any list of runs
 
