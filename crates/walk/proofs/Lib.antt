@@ -1,1 +1,2 @@
 mod Stopped
+mod Computed

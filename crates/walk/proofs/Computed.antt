@@ -1,0 +1,110 @@
+-- The walk and the bound, computed on small scripts. The figures are the original's, printed by oracle/ for the same scripts (crates/engine/proofs has their
+-- files). Each wrong turn of the walk or the bound gives another figure on one of them.
+use Prim.Native.Nat.{ℕ}
+use mathlib.Core.Path.{_≡_, refl}
+use mathlib.Core.Bool.{true, false}
+use mathlib.Core.List.{List, [], _∷_}
+use mathlib.Core.Option.{Option, none, some}
+use lib.Ieee.{eq, ofInt, ofBits, toBits, binary64}
+use Rattle.numeric.specs.Index.{indexOf}
+use Rattle.sifv.specs.Value.{Value, One, Arr, Tab, Single, Num, Str, Bl, Null}
+use Rattle.ast.specs.Tree.{Plus, EqEq, Lit, Val, Text, Truth, Literal, Name, BinaryExpr, VarAssign, Expression, Array, ArrayAccess, VarInit, ExprStmt, IfStmt, ForStmt, OverName, Else, Stmt, Stmts, noStmts, moreStmts}
+use Rattle.compiler.specs.Lower.{lowerTree, programOf}
+use Rattle.vm.specs.RuntimeErr.{InvalidName}
+use Rattle.vm.specs.Machine.{Stopped}
+use Rattle.walk.specs.Walk.{walk, walkCount, walkNames, walkEnd}
+use Rattle.walk.specs.Bound.{bound}
+use Rattle.walk.specs.Runs.{runs}
+
+abbrev one : Lit
+one = Val 0x3ff0000000000000
+
+abbrev two : Lit
+two = Val 0x4000000000000000
+
+abbrev script : List Stmt → Stmts
+script [] = noStmts
+script (s ∷ l) = moreStmts s (script l)
+
+-- a number's pattern, to be compared by computing
+abbrev pattern : Option Value → ℕ
+pattern none = 0
+pattern (some (One (Num x))) = toBits binary64 x
+pattern (some (One (Str t))) = 0
+pattern (some (One (Bl b))) = 0
+pattern (some (One Null)) = 0
+pattern (some (Arr l)) = 0
+pattern (some (Tab t)) = 0
+
+-- ---- "the index comes from the loop, not from the body's assignments": the body sets the index name to 7
+
+abbrev setting : Stmts
+setting =
+    script (VarInit 1 (Array 1 (one ∷ two ∷ Val 0x4008000000000000 ∷ []))
+    ∷ ForStmt 2 3 (OverName 1) (script (ExprStmt (VarAssign 2 (Expression (Literal (Val 0x401c000000000000)))) ∷ [])) ∷ [])
+
+index-from-loop : pattern (walkNames (walk setting) 2) ≡ 0x4008000000000000
+unfolding indexOf ofInt ofBits toBits
+index-from-loop = refl
+
+passes-counted : walkCount (walk setting) ≡ 27
+unfolding indexOf ofInt ofBits
+passes-counted = refl
+
+bound-of-passes : bound setting ≡ 27
+bound-of-passes = refl
+
+-- ---- case 3: the If's end is a step on both ways
+
+abbrev choosing : Lit → Stmts
+choosing l =
+    script (VarInit 1 (Expression (Literal l))
+    ∷ IfStmt (BinaryExpr EqEq (Name 1) (Literal one)) (script (VarInit 2 (Expression (Literal one)) ∷ [])) (Else noStmts) ∷ [])
+
+holds-counted : walkCount (walk (choosing one)) ≡ 8
+unfolding eq ofBits
+holds-counted = refl
+
+fails-counted : walkCount (walk (choosing two)) ≡ 6
+unfolding eq ofBits
+fails-counted = refl
+
+-- ---- what is stored
+
+access-not-stored : walkNames (walk (script (VarInit 1 (Array 1 (one ∷ Text 2 ∷ Truth true ∷ [])) ∷ VarInit 2 (ArrayAccess 1 (Literal one)) ∷ []))) 2 ≡ none
+unfolding indexOf ofBits
+access-not-stored = refl
+
+true-stores-false : walkNames (walk (script (VarInit 2 (Expression (Literal (Truth true))) ∷ []))) 2 ≡ some (One (Bl false))
+true-stores-false = refl
+
+unset-stores-nothing : walkNames (walk (script (VarInit 1 (Expression (Name 2)) ∷ []))) 1 ≡ some (One Null)
+unset-stores-nothing = refl
+
+-- ---- a stop is not counted
+
+abbrev stopping : Stmts
+stopping = script (ExprStmt (BinaryExpr Plus (Name 2) (Literal one)) ∷ [])
+
+stop-not-counted : walkCount (walk stopping) ≡ 0
+stop-not-counted = refl
+
+stop-told : walkEnd (walk stopping) ≡ Stopped (InvalidName 2)
+stop-told = refl
+
+-- a run of 0 steps behind it leaves the last answer as it was
+idle-run-ends-nothing : runs (programOf (lowerTree stopping)) (5 ∷ 0 ∷ []) .last ≡ some (Stopped (InvalidName 2))
+idle-run-ends-nothing = refl
+
+-- ---- L: the longest literal of the whole tree, at least 1
+
+abbrev inside : Stmts
+inside =
+    script (IfStmt (BinaryExpr EqEq (Literal one) (Literal one))
+    (script (VarInit 1 (Array 1 (one ∷ two ∷ [])) ∷ ForStmt 2 3 (OverName 1) noStmts ∷ [])) (Else noStmts) ∷ [])
+
+longest-in-block : bound inside ≡ 25
+longest-in-block = refl
+
+least-one : bound (script (VarInit 1 (Array 1 []) ∷ ForStmt 2 3 (OverName 1) noStmts ∷ [])) ≡ 11
+least-one = refl
