@@ -22,6 +22,7 @@ mod reader;
 mod records;
 mod refuse;
 mod rng;
+mod rows;
 mod store;
 mod tree;
 mod value_text;
@@ -59,6 +60,7 @@ fn command(words: &[&str]) -> Result<(), String> {
         ["example"] => io::stdout().write_all(&cases::example_file()).map_err(|e| e.to_string()),
         ["store", folder] => store::store(folder),
         ["replay", folder] => records::replay(folder),
+        ["rows", folder] => rows::check(folder),
         ["faults", seed] => store::faults(number(seed)?),
         ["mutants", sources, list, cases, scratch] => mutants::run(sources, list, cases, scratch),
         ["cases"] => cases::check(),
