@@ -52,8 +52,8 @@ const COMPILER: &[Edit] = &[
     ("};\n        self.ri - 1\n", "};\n        crate::refuse::register_before(self.ri)\n", 1),
 ];
 
-/// Fields and the single step are opened to the driver; two subtractions wrap, as they do in
-/// an optimised build; Stop is silent.
+/// Fields and the single step are opened to the driver; three sums wrap, as they do in an
+/// optimised build; Stop is silent.
 const VM: &[Edit] = &[
     ("use crate::{", "use super::{", 1),
     ("use sifc_bytecode::", "use crate::original::sifc_bytecode::", 1),
@@ -70,6 +70,7 @@ const VM: &[Edit] = &[
     ("\n    ip: usize,", "\n    pub ip: usize,", 1),
     ("    fn execute(&mut self)", "    pub fn execute(&mut self)", 1),
     ("self.ip = *i - 1", "self.ip = i.wrapping_sub(1)", 3),
+    ("self.ip = self.ip + 1;", "self.ip = self.ip.wrapping_add(1);", 1),
     ("self.ip + 1 - self.csi", "(self.ip + 1).wrapping_sub(self.csi)", 1),
     ("eprintln!(\"sif: stop instruction found, halting execution\");", "", 1),
 ];

@@ -2,11 +2,15 @@
 
 use crate::bound::{bound_of_program, bound_of_tree};
 use crate::driver::{End, Machine};
-use crate::gen_script::{other, plain};
+use crate::gen;
+use crate::gen_large;
+use crate::gen_script::plain;
+use crate::gen_small;
 use crate::gen_values;
-use crate::listing::{machine_of, names_text, whole_machine};
+use crate::listing::{names_text, whole_machine};
 use crate::lower::lower_file;
-use crate::original::sifc_bytecode::compiler::CompileResult;
+use crate::program::code_of_text;
+use crate::program_bytes::Code;
 use crate::rng::Rng;
 use crate::tree::{file_of, is_plain, Node};
 use crate::walk::{walk, Cut};
@@ -35,6 +39,7 @@ pub fn compare(seed: u64, count: u64) -> Result<(), String> {
         let root = match directed.get(item as usize) {
             Some(root) => root.clone(),
             None if item % 10 == 0 => gen_values::numbers(&mut rng),
+            None if item % 10 == 5 => gen_large::script(&mut rng, true),
             None => plain(&mut rng),
         };
         let file = file_of(&root);
@@ -65,7 +70,7 @@ fn one(file: &[u8], rng: &mut Rng, figures: &mut Figures) -> Result<(), String> 
     }
     let bound = bound_of_tree(&root);
     equal("bound", bound, bound_of_program(&lowered))?;
-    let fresh = Fresh { root, lowered };
+    let fresh = Fresh { root, code: Code::of_lowered(lowered) };
     let whole = fresh.at_budget(STEPS)?;
     let count = whole.count;
     match whole.end {
@@ -84,7 +89,7 @@ fn one(file: &[u8], rng: &mut Rng, figures: &mut Figures) -> Result<(), String> 
         }
     }
     fresh.in_portions(rng, &whole)?;
-    fresh.by_run()?;
+    by_run(&fresh.code)?;
     figures.scripts += 1;
     figures.runs += 3 + budgets.len() as u64;
     figures.steps += count;
@@ -112,21 +117,12 @@ struct Left {
 
 struct Fresh {
     root: Node,
-    lowered: CompileResult,
+    code: Code,
 }
 
 impl Fresh {
     fn machine(&self) -> Machine {
-        let l = &self.lowered;
-        machine_of(CompileResult {
-            code: Vec::new(),
-            decls: Vec::new(),
-            program: l.program.clone(),
-            jumptab: l.jumptab.clone(),
-            fntab: l.fntab.clone(),
-            code_start: l.code_start,
-            err: None,
-        })
+        self.code.machine()
     }
 
     /// Machine and walk cut off after so many steps; they have to agree.
@@ -148,27 +144,6 @@ impl Fresh {
         Ok(Left { end, count: machine.count, names })
     }
 
-    /// The stepped machine beside the original's `VM::run`: all of both machines has to agree.
-    /// None where the original would panic, meet an added size, or run on.
-    fn by_run(&self) -> Result<Option<End>, String> {
-        let mut stepped = self.machine();
-        let end = stepped.run(STEPS);
-        let expected = match &end {
-            End::Done => Ok(()),
-            End::Stopped { stop, .. } if stepped.is_original_stop(stop) => Err(stop.clone()),
-            _ => return Ok(None),
-        };
-        let mut whole = self.machine();
-        equal("end by VM::run", expected, whole.run_by_original())?;
-        whole.count = stepped.count;
-        equal(
-            "machine by VM::run",
-            whole_machine(&mut stepped, &end),
-            whole_machine(&mut whole, &end),
-        )?;
-        Ok(Some(end))
-    }
-
     /// The same steps in portions leave the same, and more steps change nothing at the end.
     fn in_portions(&self, rng: &mut Rng, whole: &Left) -> Result<(), String> {
         let mut machine = self.machine();
@@ -188,6 +163,26 @@ impl Fresh {
     }
 }
 
+/// The stepped machine beside the original's `VM::run`: all of both machines has to agree. None
+/// where the original would panic, meet an added size, or run on.
+fn by_run(code: &Code) -> Result<Option<End>, String> {
+    let mut stepped = code.machine();
+    let end = stepped.run(STEPS);
+    if !stepped.is_reached_by_original(&end) {
+        return Ok(None);
+    }
+    let expected = match &end {
+        End::Stopped { stop, .. } => Err(stop.clone()),
+        _ => Ok(()),
+    };
+    let mut whole = code.machine();
+    equal("end by VM::run", expected, whole.run_by_original())?;
+    whole.count = stepped.count;
+    let machines = [&mut stepped, &mut whole].map(|machine| whole_machine(machine, &end));
+    equal("machine by VM::run", &machines[0], &machines[1])?;
+    Ok(Some(end))
+}
+
 fn equal<T: PartialEq + std::fmt::Debug>(what: &str, a: T, b: T) -> Result<(), String> {
     if a == b {
         Ok(())
@@ -196,26 +191,58 @@ fn equal<T: PartialEq + std::fmt::Debug>(what: &str, a: T, b: T) -> Result<(), S
     }
 }
 
-/// Steps other scripts, and runs them by the original's `VM::run` too.
-pub fn runs(seed: u64, count: u64) -> Result<(), String> {
-    let (mut done, mut stopped, mut left_out) = (0, 0, 0);
-    for item in 0..count {
-        let Ok((root, lowered)) = lower_file(&file_of(&other(&mut Rng::new(seed, item)))) else {
-            left_out += 1;
-            continue;
-        };
-        let fresh = Fresh { root, lowered };
-        let end = fresh.by_run().map_err(|why| format!("seed {seed} item {item}: {why}"))?;
-        match end {
-            Some(End::Done) => done += 1,
-            Some(_) => stopped += 1,
-            None => left_out += 1,
+/// All trees of at most so many nodes: plain ones beside the walk, all of them beside `VM::run`.
+pub fn small(most: usize) -> Result<(), String> {
+    let (mut figures, mut other, mut refused) = (Figures::default(), 0, 0);
+    let roots = gen_small::all(most);
+    for (item, root) in roots.iter().enumerate() {
+        let file = file_of(root);
+        let told = |why: String| format!("small tree {item}: {why}");
+        match lower_file(&file) {
+            Err(_) => refused += 1,
+            Ok(_) if is_plain(root) => {
+                one(&file, &mut Rng::new(1, item as u64), &mut figures).map_err(told)?;
+            }
+            Ok((_, lowered)) => {
+                by_run(&Code::of_lowered(lowered)).map_err(told)?;
+                other += 1;
+            }
         }
     }
     println!(
-        "runs: {done} scripts run to their end and {stopped} to a stop as by VM::run; {left_out} \
-         refused, longer, or at an added number"
+        "small: all {} trees of at most {most} nodes: {} plain ones agree with the walk, {other} \
+         others with VM::run, {refused} refused",
+        roots.len(),
+        figures.scripts
     );
+    Ok(())
+}
+
+/// Steps other scripts and programs, and runs them by the original's `VM::run` too.
+pub fn runs(seed: u64, count: u64) -> Result<(), String> {
+    for (what, kinds) in
+        [("scripts", &["other", "large"][..]), ("programs", &["programs", "routines"])]
+    {
+        let (mut done, mut stopped, mut left_out) = (0, 0, 0);
+        for item in 0..count {
+            let kind = kinds[usize::from(item % 10 >= 7)];
+            let bytes = gen::seeded(kind, &mut Rng::new(seed, item));
+            let code = match kind {
+                "programs" | "routines" => code_of_text(&bytes)?,
+                _ => lower_file(&bytes).ok().map(|(_, lowered)| Code::of_lowered(lowered)),
+            };
+            let end = code.map_or(Ok(None), |code| by_run(&code));
+            match end.map_err(|why| format!("{kind}, seed {seed} item {item}: {why}"))? {
+                Some(End::Done) => done += 1,
+                Some(_) => stopped += 1,
+                None => left_out += 1,
+            }
+        }
+        println!(
+            "runs: {done} {what} run to their end and {stopped} to a stop as by VM::run; \
+             {left_out} refused, longer, or at an added number"
+        );
+    }
     Ok(())
 }
 

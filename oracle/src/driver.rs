@@ -1,7 +1,8 @@
 //! Steps the original's VM, one instruction at a time.
 //!
 //! Where the Rust would panic, and at the sizes that document 01 added, the step is stopped
-//! before it is executed. Everything else is the original's `execute`.
+//! before it is executed; where it would panic, it is run all the same and has to. Everything else
+//! is the original's `execute`.
 
 use std::collections::HashMap;
 use std::panic::{catch_unwind, AssertUnwindSafe};
@@ -13,7 +14,7 @@ use crate::original::sifc_bytecode::sifv::SifVal;
 use crate::original::sifc_err::runtime_err::{RuntimeErr, RuntimeErrTy};
 use crate::original::sifc_vm::config::VMConfig;
 use crate::original::sifc_vm::vm::VM;
-use crate::refuse::REGISTERS;
+use crate::refuse::{panics, REGISTERS};
 
 pub const VALUE_STACK: usize = 24;
 pub const CALL_STACK: usize = 24;
@@ -48,6 +49,8 @@ pub enum End {
 pub struct Machine {
     pub vm: VM<'static>,
     pub count: u64,
+    /// Whether a step was taken where the original panics (equal registers).
+    pub apart: bool,
 }
 
 impl Machine {
@@ -59,7 +62,7 @@ impl Machine {
     ) -> Machine {
         let config =
             VMConfig { trace: false, initial_heap_size: 64, initial_dreg_count: REGISTERS + 1 };
-        Machine { vm: VM::init(program, start, labels, functions, config), count: 0 }
+        Machine { vm: VM::init(program, start, labels, functions, config), count: 0, apart: false }
     }
 
     pub fn at_end(&self) -> bool {
@@ -96,10 +99,33 @@ impl Machine {
         stop.number < 31 || stop.number == 31 && !loading
     }
 
+    /// Whether the original's own `run` comes from the start to this end: no step was taken where it
+    /// panics, and the stop, if there is one, is its own.
+    pub fn is_reached_by_original(&self, end: &End) -> bool {
+        match end {
+            End::Done => !self.apart,
+            End::Spent => false,
+            End::Stopped { stop, .. } => !self.apart && self.is_original_stop(stop),
+        }
+    }
+
+    /// The original is run at the position, and has to panic there.
+    fn has_to_panic(&mut self) {
+        let vm = &mut self.vm;
+        let panicked = panics(|| {
+            let _ = vm.execute();
+        });
+        let (at, op) = (self.vm.ip, &self.vm.prog[self.vm.ip].op);
+        assert!(panicked, "the original does not panic at index {at}: {op:?}");
+    }
+
     /// One step. A stopped step changes nothing and is not counted.
     pub fn step(&mut self) -> Result<(), Stop> {
         let op = self.vm.prog[self.vm.ip].op.clone();
         if let Some(stop) = self.added_stop(&op) {
+            if matches!(stop.number, 31..=33) {
+                self.has_to_panic();
+            }
             return Err(stop);
         }
         match op {
@@ -134,6 +160,8 @@ impl Machine {
         let result = self.execute();
         self.vm.prog[at].op = own;
         result?;
+        self.has_to_panic();
+        self.apart = true;
         let value = self.register(SCRATCH);
         self.vm.dregs.set_contents(dest, value);
         self.vm.dregs.set_contents(SCRATCH, None);

@@ -2,11 +2,19 @@
 
 use std::fs;
 use std::io::Write;
+use std::sync::OnceLock;
 
 use crate::gen_script::{other, plain};
 use crate::rng::Rng;
 use crate::tree::file_of;
-use crate::{gen_damaged, gen_limits, gen_other, gen_programs, gen_values};
+use crate::{gen_damaged, gen_large, gen_limits, gen_other, gen_programs, gen_small, gen_values};
+
+/// The kinds of tree files.
+pub const FILES: [&str; 8] =
+    ["plain", "values", "other", "limits", "damaged", "large", "texts", "small"];
+
+/// Nodes of the exhaustive trees.
+const SMALL: usize = 4;
 
 /// So many items of a kind: tree files, or program texts with their `steps` line. The directed
 /// list of the kind comes first, then items by the seed.
@@ -21,7 +29,8 @@ pub fn items(kind: &str, seed: u64, count: usize) -> Result<Vec<Vec<u8>>, String
 /// The directed list of a kind.
 pub fn directed(kind: &str, seed: u64) -> Result<Vec<Vec<u8>>, String> {
     Ok(match kind {
-        "plain" => Vec::new(),
+        "plain" | "large" | "texts" | "routines" => Vec::new(),
+        "small" => gen_small::all(SMALL).iter().map(file_of).collect(),
         "values" => gen_values::all().iter().map(file_of).collect(),
         "other" => gen_other::all().iter().map(file_of).collect(),
         "limits" => gen_limits::all(),
@@ -44,20 +53,31 @@ pub fn damaged_list(seed: u64) -> Vec<(Vec<u8>, u8)> {
     out
 }
 
-fn seeded(kind: &str, rng: &mut Rng) -> Vec<u8> {
+/// One item of a kind by the seed.
+pub fn seeded(kind: &str, rng: &mut Rng) -> Vec<u8> {
     match kind {
         "other" => file_of(&other(rng)),
         "limits" => limit_beside(rng),
         "damaged" => gen_damaged::scratched(rng),
         "programs" => gen_programs::random(rng).into_bytes(),
+        "routines" => gen_programs::routine(rng).into_bytes(),
+        "large" => gen_large::file(rng),
+        "texts" => unused_texts(rng),
         "values" => file_of(&gen_values::numbers(rng)),
         _ => file_of(&plain(rng)),
     }
 }
 
+/// A script with long texts and unused ones.
+fn unused_texts(rng: &mut Rng) -> Vec<u8> {
+    let root = if rng.chance(50) { plain(rng) } else { other(rng) };
+    gen_large::with_texts(&root, rng)
+}
+
 /// A file of the list of limits, with one of its first bytes changed.
 fn limit_beside(rng: &mut Rng) -> Vec<u8> {
-    let list = gen_limits::all();
+    static LIST: OnceLock<Vec<Vec<u8>>> = OnceLock::new();
+    let list = LIST.get_or_init(gen_limits::all);
     let mut file = list[rng.below(list.len())].clone();
     let at = rng.below(file.len().min(80));
     file[at] = file[at].wrapping_add(1);
@@ -79,6 +99,6 @@ fn write_item(bytes: &[u8], to: &str, kind: &str, seed: u64, item: usize) -> std
         return out.write_all(bytes);
     }
     fs::create_dir_all(to)?;
-    let ending = if kind == "programs" { "program" } else { "tree" };
+    let ending = if matches!(kind, "programs" | "routines") { "program" } else { "tree" };
     fs::write(format!("{to}/{kind}-{seed}-{item:05}.{ending}"), bytes)
 }

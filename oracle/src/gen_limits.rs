@@ -14,7 +14,25 @@ pub fn all() -> Vec<Vec<u8>> {
     out.extend(six_and_seven().iter().map(file_of));
     out.extend(nodes().iter().map(file_of));
     out.extend(texts());
+    out.extend(at_the_last_step().iter().map(file_of));
     out
+}
+
+/// Scripts that end one step before the listing's 100,000, with the last of them, and one later.
+fn at_the_last_step() -> Vec<Node> {
+    (0..3).map(|more| long_script(20 + more)).collect()
+}
+
+/// Nested loops of 99,979 steps with so many more behind them.
+fn long_script(more: usize) -> Node {
+    let list = |name: u8, length: usize| set_array(name, vec![no(); length]);
+    let over = |array: u8, body: Node| for_(4, 5, name(array), body);
+    let deep = over(1, block(vec![over(1, block(vec![over(2, block(vec![]))]))]));
+    let second = over(1, block(vec![over(3, block(vec![]))]));
+    let mut kids = vec![list(1, 24), list(2, 20), list(3, 10), deep, second];
+    kids.extend([over(1, block(vec![])), over(3, block(vec![]))]);
+    kids.extend(vec![block(vec![]); more]);
+    program(kids)
 }
 
 fn items_and_keys() -> Vec<Node> {

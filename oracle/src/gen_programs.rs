@@ -456,3 +456,75 @@ fn operation(rng: &mut Rng, label: usize) -> String {
         _ => format!("Binary {} {a} {b} {c}", rng.pick(&BINARY)),
     }
 }
+
+/// A program that mostly runs to its end: declared functions, registers and names that are filled, a
+/// loop, calls, and operations on values of the kind that they want.
+pub fn routine(rng: &mut Rng) -> String {
+    let mut all = Vec::new();
+    for name in 8..8 + rng.below(3) {
+        all.push((0, format!("Fn {name} 1 2")));
+        let count = rng.between(1, 6);
+        all.extend((0..count).map(|_| (0, sound_operation(rng))));
+        all.push((0, String::from("FnRet")));
+    }
+    let functions = all.iter().filter(|line| line.1.starts_with("Fn ")).count();
+    let start = all.len();
+    let mut label = 1;
+    let filled = |value: usize| format!("Num:{:016x}", (value as f64 / 2.0).to_bits());
+    all.extend((0..4).map(|r| (label, format!("Ldc {r} {}", filled(r + rng.below(9))))));
+    all.push((label, format!("Ldc 4 {}", rng.pick(&["Bl:0", "Bl:1"]))));
+    let items = vec!["Num:3ff0000000000000"; rng.pick(&[1, 2, 5, 24])].join(",");
+    all.push((label, format!("Stc Arr:[{items}] 1")));
+    all.push((label, format!("Stc {LIST} 2")));
+    all.push((label, String::from("Stc Tab:[] 3")));
+    all.push((label, format!("Stc {ONE} 4")));
+    all.push((label, String::from("Ldc 6 Num:0000000000000000")));
+    all.push((label, format!("Ldc 7 {}", filled(2 * rng.between(1, 12)))));
+    label += 1;
+    let again = label;
+    for _ in 0..rng.between(2, 30) {
+        let line = match rng.below(12) {
+            0 if functions > 0 => format!("Call {} 2", 8 + rng.below(functions)),
+            1 => operation(rng, label),
+            _ => sound_operation(rng),
+        };
+        all.push((label, line));
+        if rng.chance(10) {
+            let kind = rng.pick(&["Jmpt", "Jmpf"]);
+            all.push((label, format!("JmpCnd {kind} 4 {}", label + 1)));
+            all.push((label, sound_operation(rng)));
+            label += 1;
+            all.push((label, String::from("Nop")));
+        }
+    }
+    all.push((label, String::from("Incrr 6")));
+    all.push((label, String::from("Binary Lt 6 7 8")));
+    all.push((label, format!("JmpCnd Jmpt 8 {again}")));
+    text(rng.pick(&[10, 100, 1000, 1000]), start, &all)
+}
+
+/// An operation on values of the kind that it wants, where `routine` filled registers and names.
+fn sound_operation(rng: &mut Rng) -> String {
+    let (a, b, c) = (rng.below(4), rng.below(4), rng.below(4));
+    let array = rng.between(1, 2);
+    let other = rng.between(4, 7);
+    match rng.below(22) {
+        0..=4 => format!("Binary {} {a} {b} {c}", rng.pick(&BINARY[..5])),
+        5 | 6 => format!("Binary {} {a} {b} 4", rng.pick(&BINARY[5..11])),
+        7 => format!("Binary {} 4 4 4", rng.pick(&BINARY[11..])),
+        8 => format!("Unary Nneg {a} {b}"),
+        9 => String::from("Unary Lneg 4 4"),
+        10 => format!("{} {a}", rng.pick(&["Incrr", "Decrr"])),
+        11 => format!("Mv {a} {b}"),
+        12 => format!("Ldas {array} {a}"),
+        13 => format!("Str {a} {other}"),
+        14 => format!("Ldn {a} 4"),
+        15 => format!("Stn {} {other}", rng.between(1, 4)),
+        16 => format!("Tbli 3 {} {a}", rng.below(16)),
+        17 => format!("FnStackPush {a}"),
+        18 => format!("FnStackPop {}", 10 + a),
+        19 => format!("Ldc {a} Num:0000000000000000"),
+        20 => format!("Ldav {array} 6 {a}"),
+        _ => format!("Upda {array} 6 {a}"),
+    }
+}

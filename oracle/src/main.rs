@@ -1,33 +1,9 @@
-//! The original engine as judge: see README.md beside this folder.
+//! The program `oracle`: see README.md beside this folder.
 
-mod bound;
-mod build_tree;
-mod cases;
-mod compare;
-mod driver;
-mod gen;
-mod gen_damaged;
-mod gen_limits;
-mod gen_other;
-mod gen_programs;
-mod gen_script;
-mod gen_values;
-mod listing;
-mod lower;
-mod mutants;
-mod names;
-mod original;
-mod program;
-mod reader;
-mod records;
-mod refuse;
-mod rng;
-mod rows;
-mod store;
-mod tree;
-mod value_text;
-mod walk;
-
+use oracle::{
+    bytes, cases, compare, examples, gen, listing, mutants, page, program, records, refuse, rows,
+    store,
+};
 use std::io::{self, Read, Write};
 use std::process::ExitCode;
 
@@ -47,12 +23,16 @@ fn main() -> ExitCode {
 fn command(words: &[&str]) -> Result<(), String> {
     match words {
         ["list"] => print(&listing::listing(&input()?)),
+        ["examples", folder] => examples::write(folder),
+        ["page"] => print(&page::page(&input()?)?),
         ["state", steps] => print(&listing::state_of_file(&input()?, number(steps)?)),
         ["program"] => print(&program::run_text(&input_text()?, None)?),
         ["program", steps] => print(&program::run_text(&input_text()?, Some(number(steps)?))?),
         ["walk"] => print(&compare::walk_text(&input()?, listing::STEPS)?),
         ["walk", steps] => print(&compare::walk_text(&input()?, number(steps)?)?),
         ["compare", seed, count] => compare::compare(number(seed)?, number(count)?),
+        ["small", nodes] => compare::small(number(nodes)? as usize),
+        ["bytes", seed, count] => bytes::check(number(seed)?, number(count)?),
         ["runs", seed, count] => compare::runs(number(seed)?, number(count)?),
         ["gen", seed, count, kind, target] => {
             gen::generate(number(seed)?, number(count)? as usize, kind, target)

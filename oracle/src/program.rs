@@ -7,6 +7,7 @@ use crate::original::sifc_bytecode::instr::Instr;
 use crate::original::sifc_bytecode::opc::{BinOpKind, JmpOpKind, Op, UnOpKind};
 use crate::original::sifc_bytecode::sifv::SifVal;
 use crate::original::sifc_bytecode::tables;
+use crate::program_bytes::Code;
 use crate::refuse::{INSTRUCTIONS, REGISTERS};
 use crate::value_text::read_literal;
 
@@ -36,6 +37,16 @@ pub fn run_text(text: &str, steps: Option<u64>) -> Result<String, String> {
     let mut machine = program.machine();
     let end = machine.run(steps);
     Ok(whole_machine(&mut machine, &end))
+}
+
+/// The program of a text; none where document 01 refuses it.
+pub fn code_of_text(text: &[u8]) -> Result<Option<Code>, String> {
+    let text = std::str::from_utf8(text).map_err(|e| e.to_string())?;
+    match read_program(text) {
+        Ok(program) => Ok(Some(Code::new(program.instrs, program.start))),
+        Err(Fault::Refused(_)) => Ok(None),
+        Err(Fault::Written(why)) => Err(why),
+    }
 }
 
 impl Program {

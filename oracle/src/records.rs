@@ -43,9 +43,9 @@ pub fn replay(folder: &str) -> Result<(), String> {
     Ok(())
 }
 
-type Pair = (Vec<u8>, Vec<u8>);
+pub type Pair = (Vec<u8>, Vec<u8>);
 
-fn load(folder: &str, name: &str) -> Result<Vec<Pair>, String> {
+pub fn load(folder: &str, name: &str) -> Result<Vec<Pair>, String> {
     let bytes = fs::read(format!("{folder}/{name}")).map_err(|e| format!("{name}: {e}"))?;
     let mut parts = Vec::new();
     let mut rest = &bytes[..];

@@ -9,9 +9,11 @@ mod lower;
 mod names;
 mod original;
 mod program;
+mod program_bytes;
 mod reader;
 mod records;
 mod refuse;
+mod state_bytes;
 mod tree;
 mod value_text;
 

@@ -1,4 +1,5 @@
-//! The rows of the computed tables in crates/engine/proofs: what they expect has to be what the original leaves.
+//! The rows of the computed tables in crates/engine/proofs: what they expect has to be what the
+//! original leaves. Every line of a table has to be read: one that cannot be is a failure.
 
 use std::fs;
 
@@ -7,10 +8,14 @@ use crate::program::run_text;
 
 /// Compares every row of the three tables in a folder with the original.
 pub fn check(folder: &str) -> Result<(), String> {
-    let read = |name: &str| fs::read_to_string(format!("{folder}/{name}")).map_err(|e| format!("{name}: {e}"));
+    let read = |name: &str| {
+        fs::read_to_string(format!("{folder}/{name}")).map_err(|e| format!("{name}: {e}"))
+    };
     let files = files_of(&read("Cases.antt")?)? + files_of(&read("Rows.antt")?)?;
     let programs = programs_of(&read("Programs.antt")?)?;
-    println!("rows: {files} files and {programs} programs of the computed tables as by the original");
+    println!(
+        "rows: {files} files and {programs} programs of the computed tables, as by the original"
+    );
     Ok(())
 }
 
@@ -31,53 +36,91 @@ fn bytes(hex: &str) -> Result<Vec<u8>, String> {
 
 /// The machine's lines but those that the listing has too.
 fn machine_lines(text: &str) -> String {
-    let shared = |line: &&str| ["end ", "held ", "name ", "refused "].iter().any(|word| line.starts_with(word));
+    let shared = |line: &&str| {
+        ["end ", "held ", "name ", "refused "].iter().any(|word| line.starts_with(word))
+    };
     text.lines().filter(|line| !shared(line)).map(|line| format!("{line}\n")).collect()
 }
 
+/// The lines of a file's one list of such rows, behind `name =` and before `[]`, without comments.
+fn list<'t>(table: &'t str, of: &str) -> Result<Vec<&'t str>, String> {
+    let head = format!(": List {of}");
+    let (_, behind) = table.split_once(&head).ok_or(format!("no list of {of}"))?;
+    let (_, list) = behind.split_once(" =\n").ok_or(format!("no list of {of}"))?;
+    let (list, rest) =
+        list.split_once("\n    []\n").ok_or(format!("no end of the list of {of}"))?;
+    if rest.contains(&head) {
+        return Err(format!("two lists of {of}"));
+    }
+    let lines = list.lines().map(str::trim);
+    Ok(lines.filter(|line| !line.is_empty() && !line.starts_with("--")).collect())
+}
+
+/// The text of a line that is one quoted text, with what may stand behind it.
+fn text_alone(line: Option<&&str>, behind: &str) -> Result<String, String> {
+    let line = line.ok_or("a row breaks off")?;
+    if line.starts_with('"') && line.ends_with(&format!("\"{behind}")) {
+        quoted(Some(line))
+    } else {
+        Err(format!("a row cannot be read: {line}"))
+    }
+}
+
 fn files_of(table: &str) -> Result<usize, String> {
-    let mut lines = table.lines().map(str::trim);
-    let mut count = 0;
-    while let Some(line) = lines.next() {
-        if line.starts_with("row \"") {
-            let file = bytes(&quoted(Some(line))?)?;
-            let expected = (quoted(lines.next())?, quoted(lines.next())?);
-            if (listing(&file), machine_lines(&state_of_file(&file, STEPS))) != expected {
-                return Err(format!("not the original's: {line}"));
-            }
-            count += 1;
+    let lines = list(table, "Row")?;
+    for row in lines.chunks(3) {
+        let hex = row[0].strip_prefix("row ").ok_or(format!("no row: {}", row[0]))?;
+        let file = bytes(&text_alone(Some(&hex), "")?)?;
+        let expected = (text_alone(row.get(1), "")?, text_alone(row.get(2), " ∷")?);
+        if (listing(&file), machine_lines(&state_of_file(&file, STEPS))) != expected {
+            return Err(format!("not the original's: {}", row[0]));
         }
     }
-    if count == 0 { Err(String::from("no rows")) } else { Ok(count) }
+    at_least_one(lines.len() / 3)
+}
+
+fn at_least_one(count: usize) -> Result<usize, String> {
+    if count == 0 {
+        Err(String::from("no rows"))
+    } else {
+        Ok(count)
+    }
+}
+
+/// Code start and steps of a program row's first line.
+fn head(line: &str) -> Option<(u64, u64)> {
+    let words: Vec<&str> = line.strip_prefix("programRow ")?.split_whitespace().collect();
+    match words.as_slice() {
+        [start, steps, "("] => Some((start.parse().ok()?, steps.parse().ok()?)),
+        _ => None,
+    }
 }
 
 fn programs_of(table: &str) -> Result<usize, String> {
-    let mut lines = table.lines().map(str::trim);
+    let lines = list(table, "ProgramRow")?;
+    let mut lines = lines.iter();
     let mut count = 0;
     while let Some(line) = lines.next() {
-        let Some(head) = line.strip_prefix("programRow ") else { continue };
-        let words: Vec<&str> = head.split_whitespace().collect();
-        let [start, steps, ..] = words.as_slice() else { return Err(format!("no program: {line}")) };
+        let (start, steps) = head(line).ok_or(format!("no program row: {line}"))?;
         let mut text = format!("start {start}\n");
         let mut index = 0;
-        let answer = loop {
+        loop {
             let line = lines.next().ok_or("a program breaks off")?;
-            match line.strip_prefix("instr ") {
-                Some(instr) => {
-                    text.push_str(&format!("op {index} {}\n", instr_text(instr)));
-                    index += 1;
-                }
-                None if line.starts_with('"') => break quoted(Some(line))?,
-                None => {}
+            if *line == "[])" {
+                break;
             }
-        };
-        let steps = steps.parse().map_err(|_| format!("no steps: {line}"))?;
+            let instr = line.strip_prefix("instr ").and_then(|rest| rest.strip_suffix(" ∷"));
+            let instr = instr.ok_or(format!("a row cannot be read: {line}"))?;
+            text.push_str(&format!("op {index} {}\n", instr_text(instr)));
+            index += 1;
+        }
+        let answer = text_alone(lines.next(), " ∷")?;
         if run_text(&text, Some(steps))? != answer {
             return Err(format!("not the original's: {text}"));
         }
         count += 1;
     }
-    if count == 0 { Err(String::from("no programs")) } else { Ok(count) }
+    at_least_one(count)
 }
 
 /// An instruction as the listing writes it: label, operation, operands.

@@ -7,7 +7,7 @@ use Prim.Native.Nat.{ℕ, _+_, _≤_}
 use native.Mathlib.Omega.{arith}
 use lib.Dec.{leb, eqb}
 use lib.ListN.{length}
-use borrow.Author.Tests.{leb-true}
+use borrow.Author.Tests.{leb-true, eqb-true}
 use Rattle.lent.specs.Bytes.{AreBytes}
 use Rattle.ast.specs.Tree.{Stmts}
 use Rattle.ast.specs.Structure.{Parsed, Fails, Takes, parse}
@@ -52,6 +52,7 @@ pub record Accepted (f : List ℕ) : Type 0 where
   pub fewNodes : nodeCount f ≤ 1024
   pub fewTexts : textCount f ≤ 64
   pub inside : contentsSize f ≤ length f
+  pub whole : contentsSize f + bodiesSize f ≡ length f
 
 passed : (b : Bool) (n : ℕ) (r : Read) → 1 ≤ n → answerOf (require b n r) ≡ 0 → (b ≡ true) × (answerOf r ≡ 0)
 passed true n r h e = (refl, e)
@@ -67,13 +68,25 @@ accepted f e =
     let a = passed (leb 3 (length f)) 1 _ (omega arith) e in
     let b = passed (countsOk f) 2 _ (omega arith) (a .1) in
     let d = passed (leb (contentsSize f) (length f)) 1 _ (omega arith) (b .1) in
+    let g = passed (kindsOk f) 4 _ (omega arith) (d .1) in
+    let i = passed (lengthsOk f) 3 _ (omega arith) (g .1) in
+    let j = passed (eqb (contentsSize f + bodiesSize f) (length f)) 1 _ (omega arith) (i .1) in
     let k = both (between 1 1024 (nodeCount f)) (between 1 64 (textCount f)) (b .0) in
     record {
       long = leb-true 3 (length f) (a .0);
       fewNodes = leb-true (nodeCount f) 1024 (both (leb 1 (nodeCount f)) (leb (nodeCount f) 1024) (k .0) .1);
       fewTexts = leb-true (textCount f) 64 (both (leb 1 (textCount f)) (leb (textCount f) 64) (k .1) .1);
       inside = leb-true (contentsSize f) (length f) (d .0);
+      whole = eqb-true (contentsSize f + bodiesSize f) (length f) (j .0);
     }
+
+tree-of : {r : Read} → Numbered r → answerOf r ≡ 0 → (t : Stmts) × (r ≡ Tree t)
+tree-of (refused h) e = absurd (omega arith)
+tree-of (tree {t = t}) e = (t, refl)
+
+-- and its tree
+pub accepted-tree : (f : List ℕ) → answerOf (readTree f) ≡ 0 → (t : Stmts) × (readTree f ≡ Tree t)
+accepted-tree f e = tree-of (numbered f) e
 
 -- ---- the laws
 

@@ -1,5 +1,5 @@
 // The tree file (document 01, "The tree file"): the refusals 1 to 5.
-mod bodies;
+pub mod bodies;
 mod contents;
 pub mod node;
 pub mod plain;

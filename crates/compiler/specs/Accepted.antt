@@ -420,7 +420,7 @@ mutual
   rest-labels (Else k) = stmts-labels k
   rest-labels (Elif c b k) = simp length-append (omega (arith, some-node c, else-labels b, stmts-labels b, rest-labels k))
 
-tree-labels : (t : Stmts) → length (flat t) ≤ 1024 → stmtsLabels t ≤ 1023
+pub tree-labels : (t : Stmts) → length (flat t) ≤ 1024 → stmtsLabels t ≤ 1023
 tree-labels t h = omega (arith, else-labels t, stmts-labels t)
 
 tree-emits : (t : Stmts) → StmtsIn t → length (flat t) ≤ 1024 → Emits 0 (stmtsRegs t) (length (flatStmts t)) (lowerTree t)
@@ -503,6 +503,16 @@ decided zero q p e = (refl, cc)
 decided (suc k) q p e = let z : _≡_ {A = ℕ} 0 1 = cc in absurd (omega arith)
 
 -- ---- the laws
+
+-- The items of all instructions of a tree within the limits, of at most 1,024 nodes, fit in the pool, refused or not.
+pub tree-items : (t : Stmts) → StmtsIn t → length (flat t) ≤ 1024 → items (programOf (lowerTree t) .code) ≤ 1024
+tree-items t i h =
+    omega (arith, items-weight (programOf (lowerTree t) .code), program-weight (λ (i : Instr). length (itemsOf (op i))) (lowerTree t), tree-emits t i h .items)
+
+-- Where nothing is refused, at most 1,024 instructions are pushed.
+pub unrefused-length : (es : List Event) → refusal es 0 0 ≡ 0 → length (programOf es .code) ≤ 1024
+unrefused-length es e =
+    omega (arith, length-weight (programOf es .code), program-weight (λ (i : Instr). 1) es, not-refused es 0 0 (omega arith) (omega arith) e .1)
 
 -- A tree within the limits, of at most 1,024 nodes, that is lowered and not refused gives a program within the limits, whose numbers fit.
 pub lowered-within : (t : Stmts) (p : Program) → StmtsIn t → length (flat t) ≤ 1024 → lower t ≡ lowered p → (programOk p ≡ true) × Each (λ (i : Instr). OpFits (op i)) (p .code)

@@ -2,3 +2,4 @@ pub mod Shown
 pub mod Cases
 pub mod Rows
 pub mod Programs
+mod Carrying

@@ -13,7 +13,7 @@ use Rattle.ast.specs.File.{readTree, Read, Refused, Tree}
 use Rattle.tables.specs.Tables.{Program}
 use Rattle.compiler.specs.Lower.{lower, Lowered, refused, lowered}
 use Rattle.vm.specs.Machine.{Machine, State, started, Ran, run}
-use Rattle.engine.specs.Text.{ascii, decimal, valueText, lineOf}
+use Rattle.text.specs.Text.{ascii, decimal, valueText, lineOf}
 use Rattle.engine.specs.Listing.{words, indexLines, ranText, listing}
 
 -- ---- files in hex

@@ -21,8 +21,8 @@ use Rattle.compiler.specs.Lower.{lowered, lower, decide, refusal, lowerTree, pr
 use Rattle.compiler.specs.Accepted.{lowered-within}
 use Rattle.vm.specs.Machine.{started}
 use Rattle.vm.specs.StateBytes.{stateSize, encodeState}
-use Rattle.engine.specs.Calls.{over, Answered, answered, lowerRead, lowerCall, startCall}
-use Rattle.engine.specs.Calls as Calls
+use Rattle.lower.specs.LowerCall.{over, Answered, answered, lowerMade, lowerRead, lowerCall}
+use Rattle.calls.specs.Calls.{startCall}
 use Rattle.engine.specs.CallLaws.{length-over, lowers, lowers-back, lowers-starts}
 use Rattle.compiler.specs.ReadWithin.{read-within}
 
@@ -76,7 +76,7 @@ pub record Accepts (file program : List ℕ) : Type 0 where
 
 module _ (file program : List ℕ) (a : AreBytes file) where
   by-lowered : (t : Stmts) → readTree file ≡ Tree t → programSize ≤ length program → (k : ℕ) (q : Program) → lower t ≡ decide k q
-      → Calls.lowerTree (decide k q) program .result ≡ 0 → Accepts file program
+      → lowerMade (decide k q) program .result ≡ 0 → Accepts file program
   by-lowered t er h zero q el e =
       let w = read-within a er in
       let k = lowered-within t q (w .0) (w .1) el in

@@ -19,7 +19,8 @@ use Rattle.compiler.specs.Within.{StmtsIn}
 use Rattle.compiler.specs.Accepted.{lowered-within, lowered-back}
 use Rattle.vm.specs.Machine.{started}
 use Rattle.vm.specs.StateBytes.{stateSize, encodeState}
-use Rattle.engine.specs.Calls.{over, Answered, answered, lowerTree, lowerRead, lowerCall, startOn, startCall}
+use Rattle.lower.specs.LowerCall.{over, Answered, answered, lowerMade, lowerRead, lowerCall}
+use Rattle.calls.specs.Calls.{startOn, startCall}
 
 -- a buffer keeps its length
 pub length-over : (new buf : List ℕ) → length new ≤ length buf → length (over new buf) ≡ length buf
@@ -33,7 +34,7 @@ module _ (file program : List ℕ) (t : Stmts) (p : Program) (er : readTree file
   lowers =
       ap (λ (b : Bool). cond b (answered 9 program) (lowerRead (readTree file) program)) (le-ltb (length program) programSize hp)
       ∙ ap (λ (r : Read). lowerRead r program) er
-      ∙ ap (λ (l : Lowered). lowerTree l program) el
+      ∙ ap (λ (l : Lowered). lowerMade l program) el
 
   -- and p is read from what it wrote
   pub lowers-back : decodeProgram (lowerCall file program .buffer) ≡ some p

@@ -27,7 +27,9 @@ use Rattle.walk.specs.Bound.{bound}
 use Rattle.walk.specs.BoundSize.{bound-small}
 use Rattle.walk.specs.Runs.{runs, sum}
 use Rattle.walk.specs.Theorems.{Served}
-use Rattle.engine.specs.Calls.{over, Answered, answered, lowerCall, startOn, startCall, reportSize, runCall, readCall}
+use Rattle.report.specs.Report.{reportSize}
+use Rattle.lower.specs.LowerCall.{over, Answered, answered, lowerCall}
+use Rattle.calls.specs.Calls.{startOn, startCall, runCall, readCall}
 use Rattle.engine.specs.CallLaws.{lowers}
 use Rattle.engine.specs.Scripts.{script-runs}
 use Rattle.engine.specs.Accepting.{Accepts, accepts, start-accepts}

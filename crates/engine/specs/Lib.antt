@@ -1,5 +1,3 @@
-pub mod Calls
-pub mod Text
 pub mod Listing
 pub mod CallLaws
 pub mod Scripts
@@ -7,3 +5,5 @@ pub mod Accepting
 pub mod CallList
 pub mod ListLaws
 pub mod Demand3
+pub mod CallBytes
+pub mod CarriedOut

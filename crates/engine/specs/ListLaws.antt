@@ -27,7 +27,9 @@ use Rattle.vm.specs.RunLaws.{run-all}
 use Rattle.vm.specs.Kept.{run-storable, storable-more}
 use Rattle.vm.specs.StopLaws.{Whole, stop-whole}
 use Rattle.walk.specs.Runs.{Runs, newer, runsFrom, sum}
-use Rattle.engine.specs.Calls.{over, answered, RunAnswered, reportSize, reportBytes, report, ranOut, runRefused, runCall, readCall}
+use Rattle.report.specs.Report.{reportSize, reportBytes, report}
+use Rattle.lower.specs.LowerCall.{over, answered}
+use Rattle.calls.specs.Calls.{RunAnswered, ranOut, runRefused, runCall, readCall}
 use Rattle.engine.specs.CallLaws.{length-over}
 use Rattle.engine.specs.CallList.{Call, Run, ReadName, Ending, endingIn, ending, endingOf, Left, latest, joined, after, callAll}
 

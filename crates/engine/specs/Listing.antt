@@ -18,7 +18,7 @@ use Rattle.vm.specs.RuntimeErr.{RuntimeErr, number, details}
 use Rattle.vm.specs.Machine.{Machine, State, started, Answer, Done, Stopped, Spent, Ran, run, line}
 use Rattle.vm.specs.StateBytes.{mark}
 use Rattle.walk.specs.Bound.{bound}
-use Rattle.engine.specs.Text.{ascii, decimal, valueText, lineOf}
+use Rattle.text.specs.Text.{ascii, decimal, valueText, lineOf}
 
 -- ---- operations: "operation, operands in `opc.rs` order (kinds by their names there, parameters one by one, numbers decimal)"
 

@@ -1,3 +1,16 @@
+// The engine as C calls it, and lists of calls.
+ghost use mathlib.Core.Path.{_≡_};
+ghost use mathlib.Core.List.{List};
+ghost use mathlib.Core.Option.{some};
+ghost use Prim.Native.Nat.{ℕ, _+_, _*_, _≤_, _<_, min};
+ghost use lib.ListN.{length};
+ghost use Rattle.lent.specs.Bytes.{beValue, part};
+ghost use Rattle.lower.specs.LowerCall.{answered, lowerCall};
+ghost use Rattle.calls.specs.Calls.{startCall, runCall, readCall};
+ghost use Rattle.engine.specs.CallList.{Call, Run, ReadName, endingIn};
+ghost use Rattle.engine.specs.CallBytes.{callOf, lastOf};
+ghost use Rattle.engine.specs.CarriedOut.{Leaves, Follows, CarriedOut};
+
 // Sizes of the buffers that a caller lends (docs/FORMATS.md).
 pub const PROGRAM_BYTES: usize = 40960;
 
@@ -6,3 +19,127 @@ pub const STATE_BYTES: usize = 65536;
 pub const REPORT_BYTES: usize = 48;
 
 pub const VALUE_BYTES: usize = 256;
+
+// ---- the calls from C: a slice is a pointer and a length
+
+#[no_mangle]
+pub extern "C" fn sif_lower(file: &[u8], program: &mut [u8]) -> u64
+    ensures { λ r. ⌜ answered r (now (program .exit)) ≡ lowerCall (now (file .entry)) (now (program .entry)) ⌝ }
+{
+    lower::lower(file, program)
+}
+
+#[no_mangle]
+pub extern "C" fn sif_start(program: &[u8], state: &mut [u8]) -> u64
+    ensures { λ r. ⌜ startCall (now (program .entry)) (now (state .entry)) ≡ answered r (now (state .exit)) ⌝ }
+{
+    calls::start(program, state)
+}
+
+#[no_mangle]
+pub extern "C" fn sif_run(program: &[u8], state: &mut [u8], steps: u64, report: &mut [u8]) -> u64
+    ensures { λ r. ⌜ runCall (now (program .entry)) (now (state .entry)) steps (now (report .entry)) ≡ record { result = r; state = now (state .exit); report = now (report .exit) } ⌝ }
+{
+    calls::run(program, state, steps, report)
+}
+
+#[no_mangle]
+pub extern "C" fn sif_read_name(state: &[u8], text: u64, out: &mut [u8]) -> u64
+    ensures { λ r. ⌜ readCall (now (state .entry)) text (now (out .entry)) ≡ answered r (now (out .exit)) ⌝ }
+{
+    calls::read_name(state, text, out)
+}
+
+// ---- a list of calls
+
+// How the last steps given ended, where any were.
+pub struct Last {
+    pub given: bool,
+    pub answer: u8,
+    pub number: u8,
+    pub a: u64,
+    pub b: u64,
+    pub c: u64,
+}
+
+// The ending that a report tells.
+fn told(report: &[u8]) -> Last
+    requires { ⌜ 48 ≤ length (now report) ⌝ }
+    ensures { λ r. ⌜ lastOf r ≡ some (endingIn (now (report .entry))) ⌝ }
+{
+    Last {
+        given: true,
+        answer: report[0],
+        number: report[1],
+        a: lent::get_u64(report, 16),
+        b: lent::get_u64(report, 24),
+        c: lent::get_u64(report, 32),
+    }
+}
+
+fn run_next(program: &[u8], state: &mut [u8], steps: u64, out: &mut [u8], last: Last) -> Last
+    ensures { λ r. ⌜ Follows (now (program .entry)) (Run steps (now (out .entry))) (now (state .entry)) last (now (state .exit)) r ⌝ }
+{
+    let n = calls::run(program, state, steps, out);
+    if n != 0 {
+        return last;
+    }
+    if steps == 0 {
+        return last;
+    }
+    told(out)
+}
+
+fn read_next(program: &[u8], state: &[u8], text: u64, out: &mut [u8], last: Last) -> Last
+    ensures { λ r. ⌜ Follows (now (program .entry)) (ReadName text (now (out .entry))) (now (state .entry)) last (now (state .entry)) r ⌝ }
+{
+    let n = calls::read_name(state, text, out);
+    last
+}
+
+// The length of the buffer that a call lends.
+fn out_length(calls: &[u8], at: usize) -> usize
+    requires { ⌜ at + 16 ≤ length (now calls) ⌝ }
+    ensures { λ r. ⌜ r ≡ min (beValue (part (now (calls .entry)) (at + 6) 2)) 256 ⌝ }
+{
+    let n = lent::get_u16(calls, at + 6) as usize;
+    if n < 256 {
+        return n;
+    }
+    256
+}
+
+// The call at byte `at` of a list.
+fn call_next(program: &[u8], state: &mut [u8], calls: &[u8], at: usize, last: Last) -> Last
+    requires { ⌜ at + 16 ≤ length (now calls) ⌝ }
+    ensures { λ r. ⌜ Follows (now (program .entry)) (callOf (part (now (calls .entry)) at 16)) (now (state .entry)) last (now (state .exit)) r ⌝ }
+{
+    let mut out = [0u8; 256];
+    let len = out_length(calls, at);
+    let number = lent::get_u64(calls, at + 8);
+    if calls[at] == 0 {
+        return run_next(program, state, number, &mut out[0..len], last);
+    }
+    read_next(program, state, number, &mut out[0..len], last)
+}
+
+// Every call of the list, one after the other.
+pub fn call_all(program: &[u8], state: &mut [u8], calls: &[u8]) -> Last
+    ensures { λ r. ⌜ CarriedOut (now (program .entry)) (now (calls .entry)) (now (state .entry)) (now (state .exit)) r ⌝ }
+{
+    let n = calls.len() / 16;
+    let mut last = Last {
+        given: false,
+        answer: 0,
+        number: 0,
+        a: 0,
+        b: 0,
+        c: 0,
+    };
+    let mut i = 0;
+    while i < n {
+        last = call_next(program, state, calls, 16 * i, last);
+        i += 1;
+    }
+    last
+}

@@ -144,6 +144,20 @@ pub fn zero(d: &mut [u8], at: usize, n: usize)
     }
 }
 
+// The first n bytes become 0, by steps that meet: no step is long, and they do not merge into one.
+pub fn clear(d: &mut [u8], n: usize)
+    requires { ⌜ (136 ≤ n) × (n ≤ length (now d)) ⌝ }
+    ensures { λ _. ⌜ now (d .exit) ≡ splice (now (d .entry)) 0 (replicate n 0) ⌝ }
+{
+    let last = n - 136;
+    let mut i = 0;
+    while i < last {
+        zero(d, i, 136);
+        i += 128;
+    }
+    zero(d, last, 136);
+}
+
 // Whether the n bytes of a from at on are those of b from bt on. All are compared.
 pub fn same(a: &[u8], at: usize, b: &[u8], bt: usize, n: usize) -> bool
     requires { ⌜ (at + n ≤ length (now a)) × (bt + n ≤ length (now b)) ⌝ }
@@ -174,4 +188,12 @@ pub fn all_zero(s: &[u8], at: usize, n: usize) -> bool
         i += 1;
     }
     ok
+}
+
+// The eight bytes from `from` on, written from `to` on. All are read before any is written.
+pub fn move_u64(d: &mut [u8], from: usize, to: usize)
+    requires { ⌜ (from + 8 ≤ length (now d)) × (to + 8 ≤ length (now d)) ⌝ }
+    ensures { λ _. ⌜ now (d .exit) ≡ splice (now (d .entry)) to (part (now (d .entry)) from 8) ⌝ }
+{
+    put_u64(d, to, get_u64(d, from));
 }

@@ -15,6 +15,8 @@ const SIGN: u64 = 0x8000_0000_0000_0000;
 
 const INFINITY: u64 = 0x7ff0_0000_0000_0000;
 
+const NAN: u64 = 0x7ff8_0000_0000_0000;
+
 // The index from a number: a NaN and a negative number give 0, a fraction is cut, and 2^64 and
 // above give 2^64 - 1.
 pub fn index_of(x: f64) -> u64
@@ -134,4 +136,25 @@ pub fn modu(a: f64, b: f64) -> f64
         return a;
     }
     from_bits(x - p + rest_of(p, q))
+}
+
+// The number of a stored pattern: no NaN's but the one. Both answers have the same bits.
+pub fn from_stored(n: u64) -> f64
+    requires { ⌜ bitsOf (Ieee.ofBits binary64 n) ≡ n ⌝ }
+    ensures { λ r. ⌜ r ≡ Ieee.ofBits binary64 n ⌝ }
+{
+    if n == 0x7ff8_0000_0000_0000 {
+        return 0.0 / 0.0;
+    }
+    f64::from_bits(n)
+}
+
+// The stored pattern of a pattern: one for every NaN.
+pub fn canonical(p: u64) -> u64
+    ensures { λ r. ⌜ r ≡ bitsOf (Ieee.ofBits binary64 p) ⌝ }
+{
+    if p % SIGN > INFINITY {
+        return NAN;
+    }
+    p
 }

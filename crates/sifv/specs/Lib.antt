@@ -6,4 +6,10 @@ pub mod Seen
 pub mod Laws
 pub mod Items
 pub mod Checks
+pub mod Places
 pub mod Tables
+pub mod Formed
+pub mod StoredForm
+pub mod Boxed
+pub mod Gaps
+pub mod Inserts

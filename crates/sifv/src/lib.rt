@@ -1,14 +1,19 @@
 // Values, and value slots in lent bytes.
+pub mod table;
+
 ghost use mathlib.Core.Path.{_≡_};
-ghost use Prim.Native.Nat.{_+_, _^_, _≤_, _<_, min};
+ghost use Prim.Native.Nat.{_+_, _%_, _^_, _≤_, _<_, min};
+ghost use mathlib.Core.Option.{some};
 ghost use mathlib.Core.Bool.{cond, _&&_};
-ghost use mathlib.Core.List.{[]};
+ghost use mathlib.Core.List.{[], _++_};
 ghost use lib.Dec.{leb, ltb};
-ghost use lib.ListN.{length, getD};
-ghost use Rattle.sifv.specs.Value.{lookup};
+ghost use lib.ListN.{length, getD, set};
+ghost use Rattle.sifv.specs.Value.{lookup, One, Num, Bl};
 ghost use Rattle.lent.specs.Bytes.{part, splice};
-ghost use Rattle.sifv.specs.Slot.{zeros, kindOf, singleOf, singleOk, singlesOk, contents, encodeSlot, decodeSlot, slotOk};
+ghost use Rattle.sifv.specs.Slot.{zeros, kindOf, wordOf, singleOf, singleOk, singlesOk, contents, encodeSlot, decodeSlot, slotOk};
 ghost use Rattle.sifv.specs.Seen.{shown, seen, plain, bare, headBytes, kindIn, wordIn, Kept, itemAt, setItem, entriesIn, found, boxBytes, keysOk, oneOk, arrOk, tabOk};
+ghost use Rattle.sifv.specs.Formed.{Formed, lenIn};
+ghost use Rattle.sifv.specs.StoredForm.{storedOf};
 
 // The bytes of a value slot (docs/FORMATS.md).
 pub const SLOT: usize = 256;
@@ -319,6 +324,29 @@ fn arr_ok(s: &[u8], at: usize) -> bool
     both(items_ok(s, at, n), lent::same(&t, 0, s, at, 256))
 }
 
+// Key i of the slot at byte at, where it is one of n.
+fn put_key(t: &mut [u8], s: &[u8], at: usize, n: usize, i: usize)
+    requires { ⌜ (length (now t) ≡ 256) × (at + 256 ≤ length (now s)) × (i < 16) ⌝ }
+    ensures { λ _. ⌜ now (t .exit) ≡ cond (ltb i n) (set (now (t .entry)) (232 + i) (getD (now (s .entry)) (at + (232 + i)) 0)) (now (t .entry)) ⌝ }
+{
+    if i < n {
+        t[232 + i] = s[at + (232 + i)];
+        return;
+    }
+}
+
+// The n keys of the slot at byte at. All 16 are gone over: a copy of n bytes would be a call of C's memcpy.
+fn put_keys(t: &mut [u8], s: &[u8], at: usize, n: usize)
+    requires { ⌜ (length (now t) ≡ 256) × (at + 256 ≤ length (now s)) × (n ≤ 16) ⌝ }
+    ensures { λ _. ⌜ now (t .exit) ≡ splice (now (t .entry)) 232 (part (now (s .entry)) (at + 232) n) ⌝ }
+{
+    let mut i = 0;
+    while i < 16 {
+        put_key(t, s, at, n, i);
+        i += 1;
+    }
+}
+
 fn tab_ok(s: &[u8], at: usize) -> bool
     requires { ⌜ at + 256 ≤ length (now s) ⌝ }
     ensures { λ r. ⌜ r ≡ tabOk (part (now (s .entry)) at 256) ⌝ }
@@ -326,9 +354,7 @@ fn tab_ok(s: &[u8], at: usize) -> bool
     let n = least(lent::wide(s[at + 1]), 16) as usize;
     let mut t = [0u8; 256];
     refill(&mut t, 6, s, at, n);
-    let a = at + 232;
-    let e = a + n;
-    lent::copy(&mut t, 232, &s[a..e]);
+    put_keys(&mut t, s, at, n);
     let ok = both(keys_ok(s, at, n), items_ok(s, at, n));
     both(ok, lent::same(&t, 0, s, at, 256))
 }
@@ -352,4 +378,158 @@ pub fn slot_ok(s: &[u8], at: usize) -> bool
         return tab_ok(s, at);
     }
     false
+}
+
+// ---- slots in their one form: a kind is read and written as one byte, a number as eight; the number is
+// written before the kind.
+
+// The kind of the slot at byte at.
+pub fn kind_at(s: &[u8], at: usize) -> u8
+    requires { ⌜ (at + 256 ≤ length (now s)) × Formed (part (now s) at 256) ⌝ }
+    ensures { λ r. ⌜ r ≡ kindIn (seen (decodeSlot (part (now (s .entry)) at 256))) ⌝ }
+{
+    s[at]
+}
+
+// The number in a slot of kind 1.
+pub fn number_at(s: &[u8], at: usize) -> f64
+    requires { ⌜ (at + 256 ≤ length (now s)) × Formed (part (now s) at 256) × (kindIn (seen (decodeSlot (part (now s) at 256))) ≡ 1) ⌝ }
+    ensures { λ r. ⌜ decodeSlot (part (now (s .entry)) at 256) ≡ some (One (Num r)) ⌝ }
+{
+    numeric::from_stored(lent::get_u64(s, at + 8))
+}
+
+// The yes/no in a slot of kind 3: its last byte.
+pub fn truth_at(s: &[u8], at: usize) -> bool
+    requires { ⌜ (at + 256 ≤ length (now s)) × Formed (part (now s) at 256) × (kindIn (seen (decodeSlot (part (now s) at 256))) ≡ 3) ⌝ }
+    ensures { λ r. ⌜ decodeSlot (part (now (s .entry)) at 256) ≡ some (One (Bl r)) ⌝ }
+{
+    s[at + 15] == 1
+}
+
+// How many items or keys a slot has.
+pub fn len_at(s: &[u8], at: usize) -> u64
+    requires { ⌜ (at + 256 ≤ length (now s)) × Formed (part (now s) at 256) ⌝ }
+    ensures { λ r. ⌜ r ≡ lenIn (seen (decodeSlot (part (now (s .entry)) at 256))) ⌝ }
+{
+    lent::wide(s[at + 1])
+}
+
+// A slot that has contents becomes empty; another stays.
+fn clear(s: &mut [u8], at: usize)
+    requires { ⌜ at + 256 ≤ length (now s) ⌝ }
+    ensures { λ _. ⌜ now (s .exit) ≡ cond (leb 5 (getD (now (s .entry)) at 0)) (splice (now (s .entry)) at (zeros 256)) (now (s .entry)) ⌝ }
+{
+    if 5 <= s[at] {
+        lent::zero(s, at, 256);
+        return;
+    }
+}
+
+fn kind_byte(v: SifVal) -> u8
+    ensures { λ r. ⌜ r ≡ kindIn v ⌝ }
+{
+    match v {
+        SifVal::Empty => 0,
+        SifVal::Num(_) => 1,
+        SifVal::Str(_) => 2,
+        SifVal::Bl(_) => 3,
+        SifVal::Null => 4,
+        SifVal::Arr(_) => 5,
+        SifVal::Tab(_) => 6,
+    }
+}
+
+// A value without contents as it is stored: its kind and its number.
+pub struct Stored {
+    pub kind: u8,
+    pub word: u64,
+}
+
+// Small and pure: at a known case it is compiled to two constants or a move.
+pub fn pack(v: SifVal) -> Stored
+    ensures { λ r. ⌜ r ≡ storedOf v ⌝ }
+{
+    Stored {
+        kind: kind_byte(v),
+        word: word_of(v),
+    }
+}
+
+// The number of a single value as it is stored: one pattern for every NaN, and 0 for nothing.
+pub fn stored_word(kind: u8, word: u64) -> u64
+    requires { ⌜ (0 < kind) × (kind ≤ 4) × (kind ≡ 3 → word ≤ 1) ⌝ }
+    ensures { λ r. ⌜ r ≡ wordOf (singleOf kind word) ⌝ }
+{
+    if kind == 1 {
+        return numeric::canonical(word);
+    }
+    if kind == 4 {
+        return 0;
+    }
+    word
+}
+
+// Item i of the slot at byte at, as it is stored.
+pub fn item(s: &[u8], at: usize, i: usize) -> Stored
+    requires { ⌜ (at + 256 ≤ length (now s)) × Formed (part (now s) at 256) × (i < lenIn (seen (decodeSlot (part (now s) at 256)))) ⌝ }
+    ensures { λ r. ⌜ r ≡ storedOf (shown (itemAt (part (now (s .entry)) at 256) i)) ⌝ }
+{
+    Stored {
+        kind: s[at + (16 + i)],
+        word: lent::get_u64(s, at + (40 + i * 8)),
+    }
+}
+
+// A stored value over any slot.
+pub fn put(s: &mut [u8], at: usize, x: Stored)
+    requires { ⌜ (at + 256 ≤ length (now s)) × Formed (part (now s) at 256) ⌝ }
+    ensures { λ _. ⌜ now (s .exit) ≡ splice (now (s .entry)) at (headBytes (x .kind) 0 (x .word) ++ zeros 240) ⌝ }
+{
+    clear(s, at);
+    lent::put_u64(s, at + 8, x.word);
+    s[at] = x.kind;
+}
+
+// A value without contents, or nothing, over any slot.
+pub fn set(s: &mut [u8], at: usize, v: SifVal)
+    requires { ⌜ (at + 256 ≤ length (now s)) × Formed (part (now s) at 256) ⌝ }
+    ensures { λ _. ⌜ now (s .exit) ≡ splice (now (s .entry)) at (encodeSlot (bare v)) ⌝ }
+{
+    put(s, at, pack(v));
+}
+
+// All of a slot over another, upwards.
+fn move_whole(s: &mut [u8], from: usize, to: usize)
+    requires { ⌜ (from + 256 ≤ length (now s)) × (to + 256 ≤ length (now s)) × (from % 256 ≡ to % 256) ⌝ }
+    ensures { λ _. ⌜ now (s .exit) ≡ splice (now (s .entry)) to (part (now (s .entry)) from 256) ⌝ }
+{
+    let mut i = 0;
+    while i < 256 {
+        lent::move_u64(s, from + i, to + i);
+        i += 8;
+    }
+}
+
+// A slot over another slot.
+pub fn move_to(s: &mut [u8], from: usize, to: usize)
+    requires { ⌜ (from + 256 ≤ length (now s)) × (to + 256 ≤ length (now s)) × (from % 256 ≡ to % 256) × Formed (part (now s) from 256) × Formed (part (now s) to 256) ⌝ }
+    ensures { λ _. ⌜ now (s .exit) ≡ splice (now (s .entry)) to (part (now (s .entry)) from 256) ⌝ }
+{
+    if 5 <= s[from] {
+        move_whole(s, from, to);
+        return;
+    }
+    clear(s, to);
+    lent::move_u64(s, from + 8, to + 8);
+    s[to] = s[from];
+}
+
+// The single value of the slot at byte from becomes item i of the slot at byte at.
+pub fn store_item(s: &mut [u8], at: usize, i: usize, from: usize)
+    requires { ⌜ (at + 256 ≤ length (now s)) × (from + 256 ≤ length (now s)) × (from % 256 ≡ at % 256) × (i < 24) × Formed (part (now s) from 256) × (0 < kindIn (seen (decodeSlot (part (now s) from 256)))) × (kindIn (seen (decodeSlot (part (now s) from 256))) ≤ 4) ⌝ }
+    ensures { λ _. ⌜ now (s .exit) ≡ splice (now (s .entry)) at (setItem (part (now (s .entry)) at 256) i (plain (seen (decodeSlot (part (now (s .entry)) from 256))))) ⌝ }
+{
+    lent::move_u64(s, from + 8, at + (40 + i * 8));
+    s[at + (16 + i)] = s[from];
 }

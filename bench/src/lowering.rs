@@ -1,0 +1,109 @@
+//! From a file's bytes to a program.
+
+use std::hint::black_box;
+
+use oracle::build_tree::ast_of;
+use oracle::original::sifc_bytecode::compiler::Compiler;
+use oracle::reader::read;
+use oracle::tree::*;
+
+use crate::engine;
+use crate::measure::{best, row, timed, turn};
+
+/// Files that are near the largest accepted ones, in different ways.
+fn largest() -> Vec<(&'static str, Vec<u8>)> {
+    let long_texts = || -> Vec<Vec<u8>> {
+        let text =
+            |n: usize| if n == 0 { b"fortmp".to_vec() } else { format!("{n:040}").into_bytes() };
+        (0..64).map(text).collect()
+    };
+    let items: Vec<Node> = (0..24).map(|n| num(f64::from(n) + 0.5)).collect();
+    let arrays = program((1..=39).map(|name| set_array(name, items.clone())).collect());
+    let blocks = program((0..4).map(|_| block(vec![block(vec![]); 254])).collect());
+    vec![
+        ("1,015 nodes, arrays, 64 long texts", Parts::new(&arrays, long_texts()).bytes()),
+        ("1,021 nodes, 1,016 instructions", Parts::new(&blocks, short_texts(2)).bytes()),
+        ("1,000 nodes, mixed", mixed(1000)),
+    ]
+}
+
+/// A script of about so many nodes: declarations, arrays, branches and loops, few registers.
+fn mixed(nodes: usize) -> Vec<u8> {
+    let mut left = nodes - 1;
+    let mut kids = vec![set_array(1, vec![num(1.0), num(2.0)])];
+    left -= 4;
+    let mut turn = 0;
+    let mut registers = 88;
+    while left >= 12 {
+        turn += 1;
+        let (size, node) = match turn % 7 {
+            0 if registers >= 8 => {
+                registers -= 8;
+                let body = block(vec![stmt(assign(3, binary(1, name(3), name(4))))]);
+                (8, for_(2, 4, name(1), body))
+            }
+            1 if registers >= 3 => {
+                registers -= 3;
+                let cond = binary(8, num(1.0), num(2.0));
+                (7, if_(cond, block(vec![decl(5, None)]), vec![], vec![decl(6, None)]))
+            }
+            2 => (8, set_array(7, vec![num(3.0); 6])),
+            3 => (3, stmt(assign(8, text(1)))),
+            4 => (3, block(vec![decl(9, None), decl(10, None)])),
+            _ => (2, set(3, num(0.5))),
+        };
+        left -= size;
+        kids.push(node);
+    }
+    let groups = kids.chunks(100).map(|part| block(part.to_vec())).collect();
+    file_of(&program(groups))
+}
+
+fn one(what: &str, file: &[u8], rounds: usize) -> f64 {
+    let mut program = vec![0; oracle::program_bytes::SIZE];
+    let root = read(file).unwrap_or_else(|number| panic!("{what}: refused {number}"));
+    let ast = ast_of(&root);
+    let lowered = (engine::lower(file, &mut program), program.clone());
+    assert!(lowered == oracle::calls::lowered(file), "{what}: not the original's program");
+    let calls = 2 + 100_000 / (file.len() + 400);
+    let times = best(
+        rounds,
+        vec![
+            turn("sif_lower", || {
+                timed(calls, || {
+                    let _ = black_box(engine::lower(file, &mut program));
+                })
+            }),
+            turn("original, from the file", || {
+                timed(calls, || {
+                    let ast = ast_of(&read(black_box(file)).expect("accepted"));
+                    black_box(Compiler::new(&ast).compile());
+                })
+            }),
+            turn("original's compile", || {
+                timed(calls, || drop(black_box(Compiler::new(black_box(&ast)).compile())))
+            }),
+        ],
+    );
+    row(what, &times);
+    times[0].1
+}
+
+pub fn all(folder: &str, rounds: usize) -> Result<(), String> {
+    println!("lower: file bytes to program (read, Compiler::compile, tables::compute)");
+    for page in ["heavy", "page"] {
+        one(page, &crate::file(folder, page)?, rounds);
+    }
+    for (what, file) in largest() {
+        one(&format!("{what}, {} bytes", file.len()), &file, rounds);
+    }
+    let mut last = 0.0;
+    for nodes in [100, 200, 400, 700, 1000] {
+        let time = one(&format!("mixed, {nodes} nodes"), &mixed(nodes), rounds);
+        if last > 0.0 {
+            println!("{:46} {:.2} times the line before", "", time / last);
+        }
+        last = time;
+    }
+    Ok(())
+}

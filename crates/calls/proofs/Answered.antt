@@ -1,0 +1,234 @@
+-- What the calls answer, test by test. Assumes nothing.
+use mathlib.Core.Path.{_≡_, refl, sym, ap, ap₂, _∙_, subst}
+use mathlib.Core.Bool.{Bool, true, false, cond, _&&_}
+use mathlib.Core.List.{List, [], _∷_, _++_, append-nil}
+use mathlib.Core.Option.{Option, none, some}
+use Prim.Native.Nat.{ℕ, _+_, _*_, _-_, _^_, _≤_, _<_}
+use native.Mathlib.Omega.{arith}
+use lib.Dec.{ltb}
+use lib.ListN.{length, take, drop, length-append, length-drop}
+use lib.Seq.{drop-length}
+use borrow.Author.Tests.{lt-ltb, le-ltb}
+use Rattle.lent.specs.Bytes.{part, splice, AreBytes}
+use Rattle.lent.specs.Parts.{part-part, length-part}
+use Rattle.lent.specs.Slots.{slot-end}
+use Rattle.sifv.specs.Slot.{encodeSlot}
+use Rattle.tables.specs.Tables.{Program}
+use Rattle.tables.specs.ProgramBytes.{decodeProgram}
+use Rattle.vm.specs.Machine.{Machine, State, Ran, Answer, started, run}
+use Rattle.vm.specs.Kept.{accepted-storable, storable-sound}
+use Rattle.vm.specs.StateBytes.{encodeState, decodeState, stateOk}
+use Rattle.execute.specs.View.{view, locOf, Cells, Laid, Holds, Canon}
+use Rattle.execute.specs.Laying.{laid-view, laid-canon}
+use Rattle.execute.specs.Programs.{programOf, Ready, ready}
+use Rattle.execute.specs.declared.Loc.{Loc}
+use Rattle.tables.specs.ProgramLaws.{limits}
+use Rattle.tables.specs.ProgramRange.{program-within}
+use Rattle.state.specs.Whole.{accepted-holds, accepted-loc}
+use Rattle.state.specs.Fields.{locAt}
+use Rattle.run.specs.Runs.{at, Answers, Came, Ended}
+use Rattle.run.specs.declared.Ran.{Ran as GivenRan}
+use Rattle.lower.specs.LowerCall.{over, answered}
+use Rattle.report.specs.Report.{report}
+use Rattle.calls.specs.Calls.{startOn, startCall, RunAnswered, ranOut, runRefused, runOn, runCall, readCall}
+use Rattle.program.specs.Held.{isSome, missing}
+use Rattle.calls.specs.Finished.{Finished}
+
+-- ---- buffers and programs
+
+-- what follows n bytes, written anew
+over-is : (new b b' : List ℕ) (n : ℕ) → b' ≡ new ++ drop n b → n ≤ length b → length b' ≡ length b → b' ≡ over new b
+over-is new b b' n e h l =
+    let k : length new + (length b - n) ≡ length b = sym (ap length e ∙ length-append new (drop n b) ∙ ap (λ (x : ℕ). length new + x) (length-drop n b)) ∙ l in
+    let z : n ≡ length new = omega arith in
+    e ∙ ap (λ (x : ℕ). new ++ drop x b) z
+
+pub programmed : (q : List ℕ) → isSome (decodeProgram q) ≡ true → decodeProgram q ≡ some (programOf q)
+programmed q h = by (decodeProgram q) refl h
+  where
+    by : (o : Option Program) → decodeProgram q ≡ o → isSome o ≡ true → o ≡ some (programOf q)
+    by none e k = let z : _≡_ {A = ℕ} 0 1 = cc in absurd (omega arith)
+    by (some p) e k = rw e
+
+pub program-ready : (q : List ℕ) → AreBytes q → 40960 ≤ length q → isSome (decodeProgram q) ≡ true → Ready q (programOf q)
+program-ready q a l h = ready q (programOf q) a l (programmed q h)
+
+pub start-small : (q : List ℕ) → AreBytes q → isSome (decodeProgram q) ≡ true → programOf q .codeStart ≤ 1024
+start-small q a h = let k = limits (programOf q) (program-within q (programOf q) a (programmed q h) .0) in omega (arith, k .start, k .count)
+
+unprogrammed : (q : List ℕ) → isSome (decodeProgram q) ≡ false → decodeProgram q ≡ none
+unprogrammed q h = missing (decodeProgram q) h
+
+-- ---- start
+
+module _ (q b : List ℕ) where
+  pub start-short-program : length q < 40960 → startCall q b ≡ answered 9 b
+  unfolding startCall
+  start-short-program h = rw (lt-ltb (length q) 40960 h)
+
+  module _ (hq : 40960 ≤ length q) where
+    pub start-short-state : length b < 65536 → startCall q b ≡ answered 9 b
+    unfolding startCall
+    start-short-state h = rw (le-ltb (length q) 40960 hq, lt-ltb (length b) 65536 h)
+
+    module _ (hb : 65536 ≤ length b) where
+      start-on : startCall q b ≡ startOn (decodeProgram q) b
+      unfolding startCall
+      start-on = rw (le-ltb (length q) 40960 hq, le-ltb (length b) 65536 hb)
+
+      pub start-refused : isSome (decodeProgram q) ≡ false → startCall q b ≡ answered 8 b
+      start-refused h = start-on ∙ ap (λ (o : Option Program). startOn o b) (unprogrammed q h)
+
+      pub start-written : {b' : List ℕ} → isSome (decodeProgram q) ≡ true → b' ≡ encodeState (started (programOf q)) ++ drop 47360 b → length b' ≡ length b → startCall q b ≡ answered 0 b'
+      start-written {b'} h e l =
+          start-on ∙ ap (λ (o : Option Program). startOn o b) (programmed q h)
+          ∙ ap (λ (x : List ℕ). answered 0 x) (sym (over-is (encodeState (started (programOf q))) b b' 47360 e (omega arith) l))
+
+-- ---- read_name
+
+module _ (b : List ℕ) (x : ℕ) (out : List ℕ) where
+  pub read-short-state : length b < 65536 → readCall b x out ≡ answered 9 out
+  unfolding readCall
+  read-short-state h = rw (lt-ltb (length b) 65536 h)
+
+  module _ (hb : 65536 ≤ length b) where
+    pub read-short-out : length out < 256 → readCall b x out ≡ answered 9 out
+    unfolding readCall
+    read-short-out h = rw (le-ltb (length b) 65536 hb, lt-ltb (length out) 256 h)
+
+    module _ (ho : 256 ≤ length out) where
+      pub read-no-text : 63 < x → readCall b x out ≡ answered 8 out
+      unfolding readCall
+      read-no-text h = rw (le-ltb (length b) 65536 hb, le-ltb (length out) 256 ho, lt-ltb 63 x h)
+
+      module _ (hx : x ≤ 63) where
+        read-on : readCall b x out ≡ cond (stateOk 1024 b) (answered 0 (over (encodeSlot (decodeState b .machine .names x)) out)) (answered 10 out)
+        unfolding readCall
+        read-on = rw (le-ltb (length b) 65536 hb, le-ltb (length out) 256 ho, le-ltb 63 x hx)
+
+        pub read-refused : {t : Bool} → t ≡ stateOk 1024 b → t ≡ false → readCall b x out ≡ answered 10 out
+        read-refused e f = read-on ∙ ap (λ (t : Bool). cond t (answered 0 (over (encodeSlot (decodeState b .machine .names x)) out)) (answered 10 out)) (sym e ∙ f)
+
+        pub read-written : {t : Bool} {out' : List ℕ} → AreBytes b → t ≡ stateOk 1024 b → t ≡ true → out' ≡ splice out 0 (part b (24576 + x * 256) 256) → length out' ≡ length out → readCall b x out ≡ answered 0 out'
+        read-written {t} {out'} a e f w l =
+            let ok : stateOk 1024 b ≡ true = sym e ∙ f in
+            let s : part b (24576 + x * 256) 256 ≡ encodeSlot (decodeState b .machine .names x) = accepted-holds 1024 b (omega arith) a (omega arith) ok .in-names x (omega arith) in
+            let n : length (part b (24576 + x * 256) 256) ≡ 256 = length-part b (24576 + x * 256) 256 (omega arith) in
+            read-on ∙ ap (λ (t : Bool). cond t (answered 0 (over (encodeSlot (decodeState b .machine .names x)) out)) (answered 10 out)) ok
+            ∙ ap (λ (y : List ℕ). answered 0 y) (sym (w ∙ ap (λ (y : List ℕ). over y out) s))
+
+-- ---- run
+
+module _ (q b : List ℕ) (steps : ℕ) (out : List ℕ) where
+  pub run-short-program : length q < 40960 → runCall q b steps out ≡ runRefused 9 b out
+  unfolding runCall
+  run-short-program h = rw (lt-ltb (length q) 40960 h)
+
+  module _ (hq : 40960 ≤ length q) where
+    pub run-short-state : length b < 65536 → runCall q b steps out ≡ runRefused 9 b out
+    unfolding runCall
+    run-short-state h = rw (le-ltb (length q) 40960 hq, lt-ltb (length b) 65536 h)
+
+    module _ (hb : 65536 ≤ length b) where
+      pub run-short-report : length out < 48 → runCall q b steps out ≡ runRefused 9 b out
+      unfolding runCall
+      run-short-report h = rw (le-ltb (length q) 40960 hq, le-ltb (length b) 65536 hb, lt-ltb (length out) 48 h)
+
+      module _ (ho : 48 ≤ length out) where
+        pub run-passed : runCall q b steps out ≡ runOn (decodeProgram q) b steps out
+        unfolding runCall
+        run-passed = rw (le-ltb (length q) 40960 hq, le-ltb (length b) 65536 hb, le-ltb (length out) 48 ho)
+
+        pub run-unprogrammed : isSome (decodeProgram q) ≡ false → runCall q b steps out ≡ runRefused 8 b out
+        run-unprogrammed h = run-passed ∙ ap (λ (o : Option Program). runOn o b steps out) (unprogrammed q h)
+
+-- the state check and the count
+module _ (q b : List ℕ) (steps : ℕ) (out : List ℕ) (h : isSome (decodeProgram q) ≡ true) {n : ℕ} (en : n ≡ length (programOf q .code)) where
+  tested : {t : Bool} → (stateOk n b && ltb (decodeState b .count + steps) (2 ^ 64)) ≡ t
+      → runOn (decodeProgram q) b steps out ≡ cond t (ranOut (programOf q) (run (programOf q) steps (decodeState b)) (decodeState b .count) b out) (runRefused 10 b out)
+  tested {t} e =
+      ap (λ (o : Option Program). runOn o b steps out) (programmed q h)
+      ∙ ap (λ (x : Bool). cond x (ranOut (programOf q) (run (programOf q) steps (decodeState b)) (decodeState b .count) b out) (runRefused 10 b out))
+      (ap (λ (k : ℕ). stateOk k b && ltb (decodeState b .count + steps) (2 ^ 64)) (sym en) ∙ e)
+
+  pub run-refused : {t : Bool} → t ≡ stateOk n b → t ≡ false → runOn (decodeProgram q) b steps out ≡ runRefused 10 b out
+  run-refused e f = tested (ap (λ (x : Bool). x && ltb (decodeState b .count + steps) (2 ^ 64)) (sym e ∙ f))
+
+  pub run-overflows : {t : Bool} → t ≡ stateOk n b → t ≡ true → 2 ^ 64 ≤ decodeState b .count + steps → runOn (decodeProgram q) b steps out ≡ runRefused 10 b out
+  run-overflows e f k = tested (ap (λ (x : Bool). x && ltb (decodeState b .count + steps) (2 ^ 64)) (sym e ∙ f) ∙ le-ltb (decodeState b .count + steps) (2 ^ 64) k)
+
+  pub run-accepted : {t : Bool} → t ≡ stateOk n b → t ≡ true → decodeState b .count + steps < 2 ^ 64
+      → runOn (decodeProgram q) b steps out ≡ ranOut (programOf q) (run (programOf q) steps (decodeState b)) (decodeState b .count) b out
+  run-accepted e f k = tested (ap (λ (x : Bool). x && ltb (decodeState b .count + steps) (2 ^ 64)) (sym e ∙ f) ∙ lt-ltb (decodeState b .count + steps) (2 ^ 64) k)
+
+-- the used bytes of an accepted state hold its machine
+module _ (n : ℕ) (b : List ℕ) (o : n ≤ 1024) (a : AreBytes b) (l : 47360 ≤ length b) (e : stateOk n b ≡ true) where
+  cells-used : (at w k : ℕ) (f : ℕ → List ℕ) → at + k * w ≤ 47360 → Cells b at w k f → Cells (part b 0 47360) at w k f
+  cells-used at w k f h c i j = let z = slot-end w k i j in let y : 0 + (at + i * w) ≡ at + i * w = omega arith in part-part b 0 47360 (at + i * w) w (omega arith) ∙ ap (λ (x : ℕ). part b x w) y ∙ c i j
+
+  used-holds : Holds (part b 0 47360) (decodeState b .machine)
+  used-holds =
+      let h = accepted-holds n b o a l e in
+      let m = decodeState b .machine in
+      record {
+        room = let z = length-part b 0 47360 l in omega arith;
+        in-regs = cells-used 0 256 96 _ (omega arith) (h .in-regs);
+        in-names = cells-used 24576 256 64 _ (omega arith) (h .in-names);
+        in-stack = cells-used 40960 256 24 _ (omega arith) (h .in-stack);
+        in-calls = cells-used 47104 4 24 _ (omega arith) (h .in-calls);
+        in-fns = cells-used 47200 2 64 _ (omega arith) (h .in-fns);
+        in-rest = part-part b 0 47360 47348 12 (omega arith) ∙ h .in-rest;
+      }
+
+  pub used-canon : {first : Loc} → first ≡ locAt b → Canon n (part b 0 47360) first
+  used-canon {first} ef = subst (Canon n (part b 0 47360)) (sym (ef ∙ accepted-loc n b o a l e)) (laid-canon n (decodeState b .machine) (part b 0 47360) (storable-sound n (decodeState b) (accepted-storable n b o a l e)) o used-holds)
+
+  pub used-state : at (part b 0 47360) (locOf (decodeState b .machine)) (decodeState b .count) ≡ decodeState b
+  used-state =
+      ap (λ (m : Machine). record { machine = m; count = decodeState b .count })
+      (laid-view n (decodeState b .machine) (part b 0 47360) (storable-sound n (decodeState b) (accepted-storable n b o a l e)) o used-holds)
+
+-- ---- what a run leaves
+
+-- the steps that are left were given
+pub few-left : {n : ℕ} {p : Program} {steps : ℕ} {b b' : List ℕ} {first : Loc} {r : GivenRan} → Ended n p steps b first b' r → r .left ≤ steps
+few-left e = omega (arith, e .came 0 .counted)
+
+pub finished : {n : ℕ} (p : Program) (steps count : ℕ) (b : List ℕ) (first : Loc) {b₁ b' : List ℕ} {r : GivenRan} → Ended n p steps b first b₁ r → length b₁ ≡ 47360
+    → b' ≡ encodeState (record { machine = view b₁ (r .loc); count = count + (steps - r .left) }) ++ drop 47360 b₁ → Finished (run p steps (at b first count)) count steps b' r
+finished p steps count b first {b₁} {b'} {r} e l w =
+    let x = run p steps (at b first count) in
+    let k = e .came count in
+    let few = few-left e in
+    let z : x .state .count ≡ count + (steps - r .left) = omega (arith, k .counted) in
+    let s : x .state ≡ record { machine = view b₁ (r .loc); count = count + (steps - r .left) } = λ i. record { machine = k .machine i; count = z i } in
+    let d : drop 47360 b₁ ≡ [] = ap (λ (j : ℕ). drop j b₁) (sym l) ∙ drop-length b₁ in
+    record {
+      answers = k .answers;
+      bytes = w ∙ ap₂ (λ (u v : List ℕ). u ++ v) (ap encodeState (sym s)) d ∙ append-nil (encodeState (x .state));
+      position = ap (λ (m : Machine). m .pos) (k .machine);
+      counted = z;
+      few = few;
+      inside = omega (arith, e .canon .sound .pos-max, e .canon .small);
+    }
+
+-- the state and the report behind an accepted run
+pub run-written : (q b : List ℕ) (steps : ℕ) (out : List ℕ) → isSome (decodeProgram q) ≡ true → {n : ℕ} → n ≡ length (programOf q .code) → n ≤ 1024 → AreBytes b → 65536 ≤ length b → {t : Bool} → t ≡ stateOk n b → t ≡ true
+    → {count : ℕ} → count ≡ decodeState b .count → steps ≤ 18446744073709551615 - count → {first : Loc} → first ≡ locAt b
+    → {b₁ b' out' : List ℕ} {r : GivenRan} → Finished (run (programOf q) steps (at (part b 0 47360) first count)) count steps b₁ r → length b₁ ≡ 47360 → b' ≡ splice b 0 b₁
+    → {start : ℕ} → programOf q .codeStart ≡ start
+    → ((p : Program) (a : Answer) (s : State) → Answers a (r .answer) → p .codeStart ≡ start → s .machine .pos ≡ r .loc .pos → out' ≡ report p a s (steps - r .left) ++ drop 48 out) → length out' ≡ length out → 48 ≤ length out
+    → runOn (decodeProgram q) b steps out ≡ record { result = 0; state = b'; report = out' }
+run-written q b steps out h {n} en o a lb {t} et ft {count} ec hc {first} ef {b₁} {b'} {out'} {r} f l₁ eb {start} es rep lo ho =
+    let ok : stateOk n b ≡ true = sym et ∙ ft in
+    let fits = accepted-storable n b o a (omega arith) ok .counted in
+    let p = programOf q in
+    let x = run p steps (decodeState b) in
+    let e₀ : at (part b 0 47360) first count ≡ decodeState b = ap₂ (λ (u : Loc) (v : ℕ). at (part b 0 47360) u v) (ef ∙ accepted-loc n b o a (omega arith) ok) ec ∙ used-state n b o a (omega arith) ok in
+    let g : Finished x count steps b₁ r = subst (λ (s : State). Finished (run p steps s) count steps b₁ r) e₀ f in
+    let s' : b' ≡ over (encodeState (x .state)) b = eb ∙ ap (λ (y : List ℕ). over y b) (g .bytes) in
+    let took : x .state .count - decodeState b .count ≡ steps - r .left = omega (arith, g .counted, g .few) in
+    let w = over-is (report p (x .answer) (x .state) (steps - r .left)) out out' 48 (rep p (x .answer) (x .state) (g .answers) es (g .position)) ho lo in
+    run-accepted q b steps out h en et ft (omega arith)
+    ∙ ap₂ (λ (u v : List ℕ). record { result = 0; state = u; report = v }) (sym s')
+    (ap (λ (k : ℕ). over (report p (x .answer) (x .state) k) out) took ∙ sym w)

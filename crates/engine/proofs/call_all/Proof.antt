@@ -1,0 +1,61 @@
+use borrow.Author.Needs.{needs}
+use native.Mathlib.Omega.{arith}
+use mathlib.Core.Path.{_≡_, refl, _∙_}
+use Prim.Native.Nat.{_-_, _/_}
+use lib.ListN.{length}
+use Rattle.engine.proofs.Carrying.{Going, going-start, going-next, going-end}
+use Rattle.engine.proofs.call_all.Statement.{statement}
+use Rattle.engine.proofs.call_all.Tie as tie
+
+abbrev Inv-loop : tie.InvT-loop
+Inv-loop program state₀ calls n last₀ i₀ state last i = (length state ≡ length state₀) × Going program calls state₀ n i state last
+
+abbrev μ-loop : tie.MeasureT-loop
+μ-loop program state₀ calls n last₀ i₀ state last i = n - i
+
+-- src/lib.rt:115:5
+loop-holds : tie.Need-loop-holds Inv-loop μ-loop
+loop-holds c = let s = c .before .before .before in (refl, going-start (s .args .program .now) (s .args .calls .now) (s .args .state .now) _ _ refl)
+
+-- src/lib.rt:116:49
+mul-call-next : tie.Need-mul-call-next Inv-loop μ-loop
+mul-call-next c = record { fits = omega (arith, c .before .before .before .before .before .before .good, c .before .loop-test .taken) }
+
+-- src/lib.rt:116:9
+call-next-requires : tie.Need-call-next-requires Inv-loop μ-loop
+call-next-requires c κs = omega (arith, c .before .loop-test .taken)
+
+-- src/lib.rt:117:9
+add-i : tie.Need-add-i Inv-loop μ-loop
+add-i c = search needs
+
+-- src/lib.rt:115:5
+loop-less : tie.Need-loop-less Inv-loop μ-loop
+loop-less c = omega arith
+
+-- src/lib.rt:115:5
+loop-again : tie.Need-loop-again Inv-loop μ-loop
+loop-again c = let s = c .before .before .before .before .before .before .before .before .before in let l = c .before .before .before .before .before .loop in (c .before .before .call-next .kept .1 .0 ∙ l .inv .0, going-next (s .args .program .now) (s .args .calls .now) (s .args .state .now) (length (s .args .calls .now) / 16) (l .i) (l .state) (l .last) (l .inv .1) (c .before .before .before .before .loop-test .taken) (c .before .before .call-next .ensures))
+
+-- src/lib.rt:109:1
+same-length : tie.Need-same-length Inv-loop μ-loop
+same-length c = c .before .loop .inv .0
+
+-- src/lib.rt:109:1
+returns : tie.Need-returns Inv-loop μ-loop
+returns c = let s = c .before .before .before .before .before in let l = c .before .loop in going-end (s .args .program .now) (s .args .calls .now) (s .args .state .now) (length (s .args .calls .now) / 16) (l .i) (l .state) (l .last) refl (l .inv .1) (c .loop-test .left)
+
+pub call-all-spec : {M : Type 1} → statement M
+call-all-spec =
+    tie.close
+    (tie.spec
+    Inv-loop
+    μ-loop
+    loop-holds
+    mul-call-next
+    call-next-requires
+    add-i
+    loop-less
+    loop-again
+    same-length
+    returns)

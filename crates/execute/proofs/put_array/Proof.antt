@@ -1,0 +1,79 @@
+-- `execute::put_array` meets its contract. Assumes nothing.
+use mathlib.Core.Path.{_≡_, refl, sym, ap, _∙_}
+use mathlib.Core.List.{[]}
+use Prim.Native.Nat.{ℕ, _+_, _-_, _*_, _≤_}
+use native.Mathlib.Omega.{arith}
+use lib.ListN.{length, take, drop, set, length-set}
+use Rattle.lent.specs.Bytes.{splice}
+use Rattle.sifv.specs.Seen.{boxBytes}
+use Rattle.opc.specs.Record.{itemList}
+use Rattle.execute.specs.View.{poolOf, orNone}
+use Rattle.execute.specs.Literals.{pool-entry, items-length, fill-start, fill-turn, fill-end}
+use borrow.Author.Needs.{needs}
+use Rattle.execute.proofs.put_array.Statement.{statement}
+use Rattle.execute.proofs.put_array.Tie as tie
+
+abbrev Inv-loop : tie.InvT-loop
+Inv-loop program state₀ at len first n start i₀ state i = (i ≤ len) × (state ≡ splice state₀ at (boxBytes 5 len (take i (orNone (itemList len (drop (first * 16) (poolOf program))))) [])) × (length state ≡ length state₀)
+
+abbrev μ-loop : tie.MeasureT-loop
+μ-loop program state₀ at len first n start i₀ state i = len - i
+
+zero-requires : tie.Need-zero-requires Inv-loop μ-loop
+zero-requires c κs = c .before .before .before .pre .1
+
+slice-write-state : tie.Need-slice-write-state Inv-loop μ-loop
+slice-write-state c = omega (arith, c .before .before .zero .kept .0, c .before .before .before .before .before .before .pre .1)
+
+cast-state : tie.Need-cast-state Inv-loop μ-loop
+cast-state c = omega (arith, c .before .before .before .before .before .before .pre .2 .few)
+
+add-state : tie.Need-add-state Inv-loop μ-loop
+add-state c = search needs
+
+slice-write-state-2 : tie.Need-slice-write-state-2 Inv-loop μ-loop
+slice-write-state-2 c = simp length-set (omega (arith, c .before .before .zero .kept .0, c .before .before .before .before .before .before .pre .1))
+
+loop-holds : tie.Need-loop-holds Inv-loop μ-loop
+loop-holds c = (omega arith, fill-start (c .before .before .before .before .before .before .args .state .now) (c .before .before .before .before .before .before .args .at) 5 (c .before .before .before .before .before .before .args .len) (c .before .before .before .before .before .before .pre .1) (c .before .before .zero .ensures) refl refl .same, refl)
+
+add-put-item : tie.Need-add-put-item Inv-loop μ-loop
+add-put-item c = omega (arith, c .before .before .before .before .before .before .before .before .before .pre .2 .ends, c .before .loop-test .taken)
+
+put-item-requires : tie.Need-put-item-requires Inv-loop μ-loop
+put-item-requires c κs = let f = fill-start (c .before .before .before .before .before .before .before .before .before .args .state .now) (c .before .before .before .before .before .before .before .before .before .args .at) 5 (c .before .before .before .before .before .before .before .before .before .args .len) (c .before .before .before .before .before .before .before .before .before .pre .1) (c .before .before .before .before .before .zero .ensures) refl refl in (c .before .before .before .before .before .before .before .before .before .pre .0, omega (arith, c .before .before .before .before .before .before .before .before .before .pre .1, c .before .before .loop .inv .2, f .long), omega (arith, c .before .before .before .before .before .before .before .before .before .pre .2 .few, c .before .loop-test .taken), omega (arith, c .before .before .before .before .before .before .before .before .before .pre .2 .ends, c .before .loop-test .taken), pool-entry (c .before .before .before .before .before .before .before .before .before .args .program .now) (c .before .before .before .before .before .before .before .before .before .args .len) (c .before .before .before .before .before .before .before .before .before .args .first) (c .before .before .loop .i) (c .before .before .before .before .before .before .before .before .before .pre .2) (c .before .loop-test .taken) .0)
+
+add-i : tie.Need-add-i Inv-loop μ-loop
+add-i c = omega (arith, c .before .before .before .before .before .before .before .before .before .before .before .before .pre .2 .few, c .before .before .before .before .loop-test .taken)
+
+loop-less : tie.Need-loop-less Inv-loop μ-loop
+loop-less c = omega (arith, c .before .before .before .before .loop-test .taken)
+
+loop-again : tie.Need-loop-again Inv-loop μ-loop
+loop-again c = let f = fill-start (c .before .before .before .before .before .before .before .before .before .before .before .before .args .state .now) (c .before .before .before .before .before .before .before .before .before .before .before .before .args .at) 5 (c .before .before .before .before .before .before .before .before .before .before .before .before .args .len) (c .before .before .before .before .before .before .before .before .before .before .before .before .pre .1) (c .before .before .before .before .before .before .before .before .zero .ensures) refl refl in let m = items-length (c .before .before .before .before .before .before .before .before .before .before .before .before .pre .2) in let t = fill-turn (set (set (c .before .before .before .before .before .before .before .before .zero .last .0) (c .before .before .before .before .before .before .before .before .before .before .before .before .args .at) 5) (c .before .before .before .before .before .before .before .before .before .before .before .before .args .at + 1) (c .before .before .before .before .before .before .before .before .before .before .before .before .args .len)) (c .before .before .before .before .before .before .before .before .before .before .before .before .args .at) 5 (c .before .before .before .before .before .before .before .before .before .before .before .before .args .len) (c .before .before .before .before .before .loop .i) (orNone (itemList (c .before .before .before .before .before .before .before .before .before .before .before .before .args .len) (drop (c .before .before .before .before .before .before .before .before .before .before .before .before .args .first * 16) (poolOf (c .before .before .before .before .before .before .before .before .before .before .before .before .args .program .now))))) (omega (arith, c .before .before .before .before .before .before .before .before .before .before .before .before .pre .1, f .long)) (omega (arith, m, c .before .before .before .before .loop-test .taken)) (omega (arith, c .before .before .before .before .before .before .before .before .before .before .before .before .pre .2 .few, c .before .before .before .before .loop-test .taken)) (c .before .before .before .before .before .loop .inv .1) (pool-entry (c .before .before .before .before .before .before .before .before .before .before .before .before .args .program .now) (c .before .before .before .before .before .before .before .before .before .before .before .before .args .len) (c .before .before .before .before .before .before .before .before .before .before .before .before .args .first) (c .before .before .before .before .before .loop .i) (c .before .before .before .before .before .before .before .before .before .before .before .before .pre .2) (c .before .before .before .before .loop-test .taken) .1) (c .before .before .put-item .ensures) in (omega (arith, c .before .before .before .before .loop-test .taken), t .0, t .1)
+
+same-length : tie.Need-same-length Inv-loop μ-loop
+same-length c = let f = fill-start (c .before .before .before .before .before .before .before .before .args .state .now) (c .before .before .before .before .before .before .before .before .args .at) 5 (c .before .before .before .before .before .before .before .before .args .len) (c .before .before .before .before .before .before .before .before .pre .1) (c .before .before .before .before .zero .ensures) refl refl in c .before .loop .inv .2 ∙ f .long
+
+returns : tie.Need-returns Inv-loop μ-loop
+returns c = fill-end (c .before .before .before .before .before .before .before .before .args .state .now) (c .before .before .before .before .before .before .before .before .args .at) (c .before .before .before .before .before .before .before .before .args .len) (c .before .loop .i) (orNone (itemList (c .before .before .before .before .before .before .before .before .args .len) (drop (c .before .before .before .before .before .before .before .before .args .first * 16) (poolOf (c .before .before .before .before .before .before .before .before .args .program .now))))) (c .before .before .before .before .before .before .before .before .pre .1) (c .before .before .before .before .before .before .before .before .pre .2 .few) (items-length (c .before .before .before .before .before .before .before .before .pre .2)) (omega (arith, c .before .loop .inv .0, c .loop-test .left)) (fill-start (c .before .before .before .before .before .before .before .before .args .state .now) (c .before .before .before .before .before .before .before .before .args .at) 5 (c .before .before .before .before .before .before .before .before .args .len) (c .before .before .before .before .before .before .before .before .pre .1) (c .before .before .before .before .zero .ensures) refl refl) (c .before .loop .inv .1)
+
+pub put-array-spec : {M : Type 1} → statement M
+put-array-spec =
+    tie.close
+    (tie.spec
+    Inv-loop
+    μ-loop
+    zero-requires
+    slice-write-state
+    cast-state
+    add-state
+    slice-write-state-2
+    loop-holds
+    add-put-item
+    put-item-requires
+    add-i
+    loop-less
+    loop-again
+    same-length
+    returns)

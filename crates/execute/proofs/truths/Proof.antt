@@ -1,0 +1,180 @@
+-- `execute::truths` meets its contract. Assumes nothing.
+use mathlib.Core.Path.{_≡_, refl, sym, ap, _∙_}
+use Rattle.execute.specs.View.{ok, err}
+use Rattle.execute.specs.declared.Got.the-variants as got
+use borrow.Author.Needs.{needs}
+use Rattle.execute.proofs.truths.Statement.{statement}
+use Rattle.execute.proofs.truths.Tie as tie
+
+enum-told : tie.Need-enum-told
+enum-told c = search needs
+
+ty-mismatch-requires : tie.Need-ty-mismatch-requires
+ty-mismatch-requires c κs = search needs
+
+enum-told-2 : tie.Need-enum-told-2
+enum-told-2 c = search needs
+
+ty-mismatch-requires-2 : tie.Need-ty-mismatch-requires-2
+ty-mismatch-requires-2 c κs = search needs
+
+enum-told-3 : tie.Need-enum-told-3
+enum-told-3 c = search needs
+
+ty-mismatch-requires-3 : tie.Need-ty-mismatch-requires-3
+ty-mismatch-requires-3 c κs = search needs
+
+enum-told-4 : tie.Need-enum-told-4
+enum-told-4 c = search needs
+
+ty-mismatch-requires-4 : tie.Need-ty-mismatch-requires-4
+ty-mismatch-requires-4 c κs = search needs
+
+enum-told-5 : tie.Need-enum-told-5
+enum-told-5 c = search needs
+
+ty-mismatch-requires-5 : tie.Need-ty-mismatch-requires-5
+ty-mismatch-requires-5 c κs = search needs
+
+enum-told-6 : tie.Need-enum-told-6
+enum-told-6 c = search needs
+
+ty-mismatch-requires-6 : tie.Need-ty-mismatch-requires-6
+ty-mismatch-requires-6 c κs = search needs
+
+enum-told-7 : tie.Need-enum-told-7
+enum-told-7 c = search needs
+
+ty-mismatch-requires-7 : tie.Need-ty-mismatch-requires-7
+ty-mismatch-requires-7 c κs = search needs
+
+enum-told-8 : tie.Need-enum-told-8
+enum-told-8 c = search needs
+
+ty-mismatch-requires-8 : tie.Need-ty-mismatch-requires-8
+ty-mismatch-requires-8 c κs = search needs
+
+enum-told-9 : tie.Need-enum-told-9
+enum-told-9 c = search needs
+
+ty-mismatch-requires-9 : tie.Need-ty-mismatch-requires-9
+ty-mismatch-requires-9 c κs = search needs
+
+enum-told-10 : tie.Need-enum-told-10
+enum-told-10 c = search needs
+
+ty-mismatch-requires-10 : tie.Need-ty-mismatch-requires-10
+ty-mismatch-requires-10 c κs = search needs
+
+enum-told-11 : tie.Need-enum-told-11
+enum-told-11 c = search needs
+
+ty-mismatch-requires-11 : tie.Need-ty-mismatch-requires-11
+ty-mismatch-requires-11 c κs = search needs
+
+enum-told-12 : tie.Need-enum-told-12
+enum-told-12 c = search needs
+
+pack-requires : tie.Need-pack-requires
+pack-requires c κs = search needs
+
+enum-told-13 : tie.Need-enum-told-13
+enum-told-13 c = search needs
+
+pack-requires-2 : tie.Need-pack-requires-2
+pack-requires-2 c κs = search needs
+
+enum-told-14 : tie.Need-enum-told-14
+enum-told-14 c = search needs
+
+pack-requires-3 : tie.Need-pack-requires-3
+pack-requires-3 c κs = search needs
+
+returns : tie.Need-returns
+returns c = rw (c .before .enum-told .given .1) (err (ap got.Err (c .ty-mismatch .ensures)))
+
+returns-2 : tie.Need-returns-2
+returns-2 c = rw (c .before .enum-told2 .given .1) (err (ap got.Err (c .ty-mismatch2 .ensures)))
+
+returns-3 : tie.Need-returns-3
+returns-3 c = rw (c .before .enum-told3 .given .1) (err (ap got.Err (c .ty-mismatch3 .ensures)))
+
+returns-4 : tie.Need-returns-4
+returns-4 c = rw (c .before .enum-told4 .given .1) (err (ap got.Err (c .ty-mismatch4 .ensures)))
+
+returns-5 : tie.Need-returns-5
+returns-5 c = rw (c .before .enum-told5 .given .1) (err (ap got.Err (c .ty-mismatch5 .ensures)))
+
+returns-6 : tie.Need-returns-6
+returns-6 c = rw (c .before .enum-told6 .given .1) (err (ap got.Err (c .ty-mismatch6 .ensures)))
+
+returns-7 : tie.Need-returns-7
+returns-7 c = rw (c .before .enum-told7 .given .1) (err (ap got.Err (c .ty-mismatch7 .ensures)))
+
+returns-8 : tie.Need-returns-8
+returns-8 c = rw (c .before .enum-told8 .given .1) (err (ap got.Err (c .ty-mismatch8 .ensures)))
+
+returns-9 : tie.Need-returns-9
+returns-9 c = rw (c .before .enum-told9 .given .1) (err (ap got.Err (c .ty-mismatch9 .ensures)))
+
+returns-10 : tie.Need-returns-10
+returns-10 c = rw (c .before .enum-told10 .given .1) (err (ap got.Err (c .ty-mismatch10 .ensures)))
+
+returns-11 : tie.Need-returns-11
+returns-11 c = rw (c .before .enum-told11 .given .1) (err (ap got.Err (c .ty-mismatch11 .ensures)))
+
+returns-12 : tie.Need-returns-12
+returns-12 c = rw (c .before .enum-told12 .given .1) (ok (ap got.Ok (c .pack .ensures)))
+
+returns-13 : tie.Need-returns-13
+returns-13 c = rw (c .before .enum-told13 .given .1) (ok (ap got.Ok (c .pack2 .ensures)))
+
+returns-14 : tie.Need-returns-14
+returns-14 c = rw (c .before .enum-told14 .given .1) (ok (ap got.Ok (c .pack3 .ensures)))
+
+pub truths-spec : {M : Type 1} → statement M
+truths-spec =
+    tie.close
+    (tie.spec
+    enum-told
+    ty-mismatch-requires
+    enum-told-2
+    ty-mismatch-requires-2
+    enum-told-3
+    ty-mismatch-requires-3
+    enum-told-4
+    ty-mismatch-requires-4
+    enum-told-5
+    ty-mismatch-requires-5
+    enum-told-6
+    ty-mismatch-requires-6
+    enum-told-7
+    ty-mismatch-requires-7
+    enum-told-8
+    ty-mismatch-requires-8
+    enum-told-9
+    ty-mismatch-requires-9
+    enum-told-10
+    ty-mismatch-requires-10
+    enum-told-11
+    ty-mismatch-requires-11
+    enum-told-12
+    pack-requires
+    enum-told-13
+    pack-requires-2
+    enum-told-14
+    pack-requires-3
+    returns
+    returns-2
+    returns-3
+    returns-4
+    returns-5
+    returns-6
+    returns-7
+    returns-8
+    returns-9
+    returns-10
+    returns-11
+    returns-12
+    returns-13
+    returns-14)

@@ -1,0 +1,10 @@
+pub mod View
+pub mod Laying
+pub mod Acts
+pub mod Stacks
+pub mod Arrays
+pub mod Readers
+pub mod Literals
+pub mod Programs
+pub mod TableView
+pub mod Tabled

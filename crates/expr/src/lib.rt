@@ -1,0 +1,390 @@
+// The lowering of expressions and right sides: `expr`, `assign` and what they call in compiler.rs; array.rs.
+mod array;
+mod skip;
+
+ghost use mathlib.Core.Path.{_≡_};
+ghost use Prim.Native.Nat.{_≤_};
+ghost use lib.ListN.{length, getD};
+ghost use Rattle.emit.specs.Made.{Reads, Front, ReadsAt, Goes};
+ghost use Rattle.expr.specs.Parts.{exprs, args, operands, stored, rights, params, items};
+
+// The expression at the front. True and False give nothing.
+pub fn expr(
+    contents: &[u8],
+    bodies: &[u8],
+    keep: bool,
+    lbl: u64,
+    low: emit::Low,
+    out: &mut [u8],
+) -> emit::Done
+    requires { ⌜ Reads exprs (now contents) (now bodies) low (now out) ⌝ }
+    ensures { λ r. ⌜ Front exprs (now (contents .entry)) (now (bodies .entry)) keep lbl low (now (out .entry)) r (now (out .exit)) ⌝ }
+{
+    let kind = contents[0];
+    if kind == 14 {
+        return arraymutexpr(contents, bodies, keep, lbl, low, out);
+    }
+    if kind == 15 {
+        return fncallexpr(contents, bodies, keep, lbl, low, out);
+    }
+    if kind == 16 {
+        return varassign(contents, bodies, keep, lbl, low, out);
+    }
+    if kind == 17 {
+        return binop(contents, bodies, keep, lbl, low, out);
+    }
+    if kind == 18 {
+        return unop(contents, bodies, keep, lbl, low, out);
+    }
+    if kind == 19 {
+        return emit::load_num(bodies, keep, lbl, low, out);
+    }
+    if kind == 20 {
+        return emit::load_text(bodies, keep, lbl, low, out);
+    }
+    if kind == 21 {
+        return emit::load_name(bodies, keep, lbl, low, out);
+    }
+    emit::start(2, 0, lbl, low)
+}
+
+// The expression at the place that p has reached.
+pub fn expr_at(
+    contents: &[u8],
+    bodies: &[u8],
+    keep: bool,
+    p: emit::Done,
+    out: &mut [u8],
+) -> emit::Done
+    requires { ⌜ ReadsAt exprs (now contents) (now bodies) p (now out) ⌝ }
+    ensures { λ r. ⌜ Goes exprs (now (contents .entry)) (now (bodies .entry)) keep p (now (out .entry)) r (now (out .exit)) ⌝ }
+{
+    let cont = p.cont;
+    let body = p.body;
+    let r = expr(&contents[cont..], &bodies[body..], keep, p.lbl, p.low, out);
+    emit::moved(cont, body, r)
+}
+
+// The value first, then the index, which stands before it.
+fn arraymutexpr(
+    contents: &[u8],
+    bodies: &[u8],
+    keep: bool,
+    lbl: u64,
+    low: emit::Low,
+    out: &mut [u8],
+) -> emit::Done
+    requires { ⌜ Reads exprs (now contents) (now bodies) low (now out) ⌝ }
+    requires { ⌜ getD (now contents) 0 0 ≡ 14 ⌝ }
+    ensures { λ r. ⌜ Front exprs (now (contents .entry)) (now (bodies .entry)) keep lbl low (now (out .entry)) r (now (out .exit)) ⌝ }
+{
+    let name = bodies[0];
+    let s = skip::skip(&contents[2..], &bodies[1..]);
+    let p = emit::start(2 + s.entries, 1 + s.bodies, lbl, low);
+    let v = expr_at(contents, bodies, keep, p, out);
+    let q = emit::start(2, 1, lbl, emit::below(v.low));
+    let i = expr_at(contents, bodies, keep, q, out);
+    let f = emit::fields_of(
+        lbl,
+        8,
+        0,
+        name,
+        emit::prevreg(i.low),
+        emit::prevreg(v.low),
+        0,
+    );
+    let u = emit::push_op(keep, i.low, f, out);
+    emit::with(v, u)
+}
+
+fn binarg(
+    contents: &[u8],
+    bodies: &[u8],
+    keep: bool,
+    lbl: u64,
+    low: emit::Low,
+    out: &mut [u8],
+) -> emit::Done
+    requires { ⌜ Reads exprs (now contents) (now bodies) low (now out) ⌝ }
+    ensures { λ r. ⌜ Front args (now (contents .entry)) (now (bodies .entry)) keep lbl low (now (out .entry)) r (now (out .exit)) ⌝ }
+{
+    let kind = contents[0];
+    if kind == 22 {
+        return emit::load_bl(1, keep, lbl, low, out);
+    }
+    if kind == 23 {
+        return emit::load_bl(0, keep, lbl, low, out);
+    }
+    expr(contents, bodies, keep, lbl, low, out)
+}
+
+// With the test of the register before.
+fn binarg_at(
+    contents: &[u8],
+    bodies: &[u8],
+    keep: bool,
+    p: emit::Done,
+    out: &mut [u8],
+) -> emit::Done
+    requires { ⌜ ReadsAt operands (now contents) (now bodies) p (now out) ⌝ }
+    ensures { λ r. ⌜ Goes operands (now (contents .entry)) (now (bodies .entry)) keep p (now (out .entry)) r (now (out .exit)) ⌝ }
+{
+    let cont = p.cont;
+    let body = p.body;
+    let r = binarg(&contents[cont..], &bodies[body..], keep, p.lbl, p.low, out);
+    emit::shift(cont, body, r)
+}
+
+fn binop(
+    contents: &[u8],
+    bodies: &[u8],
+    keep: bool,
+    lbl: u64,
+    low: emit::Low,
+    out: &mut [u8],
+) -> emit::Done
+    requires { ⌜ Reads exprs (now contents) (now bodies) low (now out) ⌝ }
+    requires { ⌜ getD (now contents) 0 0 ≡ 17 ⌝ }
+    ensures { λ r. ⌜ Front exprs (now (contents .entry)) (now (bodies .entry)) keep lbl low (now (out .entry)) r (now (out .exit)) ⌝ }
+{
+    let kind = emit::bin_code(bodies[0]);
+    let p = emit::start(2, 1, lbl, low);
+    let a = binarg_at(contents, bodies, keep, p, out);
+    let b = binarg_at(contents, bodies, keep, a, out);
+    let f = emit::fields_of(
+        lbl,
+        1,
+        kind,
+        emit::prevreg(a.low),
+        emit::prevreg(b.low),
+        b.low.reg,
+        0,
+    );
+    emit::load_at(keep, b, f, out)
+}
+
+fn unop(
+    contents: &[u8],
+    bodies: &[u8],
+    keep: bool,
+    lbl: u64,
+    low: emit::Low,
+    out: &mut [u8],
+) -> emit::Done
+    requires { ⌜ Reads exprs (now contents) (now bodies) low (now out) ⌝ }
+    requires { ⌜ getD (now contents) 0 0 ≡ 18 ⌝ }
+    ensures { λ r. ⌜ Front exprs (now (contents .entry)) (now (bodies .entry)) keep lbl low (now (out .entry)) r (now (out .exit)) ⌝ }
+{
+    let kind = bodies[0];
+    let p = emit::start(2, 1, lbl, low);
+    let a = binarg_at(contents, bodies, keep, p, out);
+    let f = emit::fields_of(lbl, 2, kind, emit::prevreg(a.low), a.low.reg, 0, 0);
+    emit::load_at(keep, a, f, out)
+}
+
+// n parameters.
+fn params(
+    n: u8,
+    contents: &[u8],
+    bodies: &[u8],
+    keep: bool,
+    p: emit::Done,
+    out: &mut [u8],
+) -> emit::Done
+    requires { ⌜ ReadsAt (params n) (now contents) (now bodies) p (now out) ⌝ }
+    ensures { λ r. ⌜ Goes (params n) (now (contents .entry)) (now (bodies .entry)) keep p (now (out .entry)) r (now (out .exit)) ⌝ }
+{
+    if n == 0 {
+        return p;
+    }
+    let a = expr_at(contents, bodies, keep, p, out);
+    let f = emit::fields_of(p.lbl, 19, 0, emit::prevreg(a.low), 0, 0, 0);
+    let b = emit::push_at(keep, a, f, out);
+    params(n - 1, contents, bodies, keep, b, out)
+}
+
+pub fn fncallexpr(
+    contents: &[u8],
+    bodies: &[u8],
+    keep: bool,
+    lbl: u64,
+    low: emit::Low,
+    out: &mut [u8],
+) -> emit::Done
+    requires { ⌜ Reads exprs (now contents) (now bodies) low (now out) ⌝ }
+    requires { ⌜ getD (now contents) 0 0 ≡ 15 ⌝ }
+    ensures { λ r. ⌜ Front exprs (now (contents .entry)) (now (bodies .entry)) keep lbl low (now (out .entry)) r (now (out .exit)) ⌝ }
+{
+    let name = bodies[0];
+    let n = contents[1];
+    let p = emit::start(2, 1, lbl, low);
+    let a = params(n, contents, bodies, keep, p, out);
+    let f = emit::fields_of(lbl, 17, 0, name, 0, 0, lent::wide(n));
+    let b = emit::push_at(keep, a, f, out);
+    let g = emit::fields_of(lbl, 20, 0, b.low.reg, 0, 0, 0);
+    emit::load_at(keep, b, g, out)
+}
+
+fn varassign(
+    contents: &[u8],
+    bodies: &[u8],
+    keep: bool,
+    lbl: u64,
+    low: emit::Low,
+    out: &mut [u8],
+) -> emit::Done
+    requires { ⌜ Reads exprs (now contents) (now bodies) low (now out) ⌝ }
+    requires { ⌜ getD (now contents) 0 0 ≡ 16 ⌝ }
+    ensures { λ r. ⌜ Front exprs (now (contents .entry)) (now (bodies .entry)) keep lbl low (now (out .entry)) r (now (out .exit)) ⌝ }
+{
+    let x = bodies[0];
+    let p = emit::start(2, 1, lbl, low);
+    assign_at(x, contents, bodies, keep, p, out)
+}
+
+// A right side, assigned to x: True and False store false.
+fn assign(
+    x: u8,
+    contents: &[u8],
+    bodies: &[u8],
+    keep: bool,
+    lbl: u64,
+    low: emit::Low,
+    out: &mut [u8],
+) -> emit::Done
+    requires { ⌜ Reads (rights x) (now contents) (now bodies) low (now out) ⌝ }
+    ensures { λ r. ⌜ Front (rights x) (now (contents .entry)) (now (bodies .entry)) keep lbl low (now (out .entry)) r (now (out .exit)) ⌝ }
+{
+    let kind = contents[0];
+    if kind == 10 {
+        return match_table_assign(x, contents, bodies, keep, lbl, low, out);
+    }
+    if kind == 12 {
+        return array::arraydecl(x, contents, bodies, keep, lbl, low, out);
+    }
+    if kind == 13 {
+        return arrayaccess(x, contents, bodies, keep, lbl, low, out);
+    }
+    if kind == 19 {
+        return emit::put_num(x, bodies, keep, lbl, low, out);
+    }
+    if kind == 20 {
+        return emit::put_text(x, bodies, keep, lbl, low, out);
+    }
+    if kind == 21 {
+        return emit::put_name(x, bodies, keep, lbl, low, out);
+    }
+    if 21 < kind {
+        return emit::put_false(x, keep, lbl, low, out);
+    }
+    expr_assign(x, contents, bodies, keep, lbl, low, out)
+}
+
+// An expression whose register is stored.
+fn expr_assign(
+    x: u8,
+    contents: &[u8],
+    bodies: &[u8],
+    keep: bool,
+    lbl: u64,
+    low: emit::Low,
+    out: &mut [u8],
+) -> emit::Done
+    requires { ⌜ Reads exprs (now contents) (now bodies) low (now out) ⌝ }
+    ensures { λ r. ⌜ Front (stored x) (now (contents .entry)) (now (bodies .entry)) keep lbl low (now (out .entry)) r (now (out .exit)) ⌝ }
+{
+    let a = expr(contents, bodies, keep, lbl, low, out);
+    let f = emit::fields_of(lbl, 11, 0, emit::prevreg(a.low), x, 0, 0);
+    emit::push_at(keep, a, f, out)
+}
+
+pub fn assign_at(
+    x: u8,
+    contents: &[u8],
+    bodies: &[u8],
+    keep: bool,
+    p: emit::Done,
+    out: &mut [u8],
+) -> emit::Done
+    requires { ⌜ ReadsAt (rights x) (now contents) (now bodies) p (now out) ⌝ }
+    ensures { λ r. ⌜ Goes (rights x) (now (contents .entry)) (now (bodies .entry)) keep p (now (out .entry)) r (now (out .exit)) ⌝ }
+{
+    let cont = p.cont;
+    let body = p.body;
+    let r = assign(
+        x,
+        &contents[cont..],
+        &bodies[body..],
+        keep,
+        p.lbl,
+        p.low,
+        out,
+    );
+    emit::moved(cont, body, r)
+}
+
+// n Items of the table x.
+fn table_items(
+    n: u8,
+    x: u8,
+    contents: &[u8],
+    bodies: &[u8],
+    keep: bool,
+    p: emit::Done,
+    out: &mut [u8],
+) -> emit::Done
+    requires { ⌜ ReadsAt (items n x) (now contents) (now bodies) p (now out) ⌝ }
+    ensures { λ r. ⌜ Goes (items n x) (now (contents .entry)) (now (bodies .entry)) keep p (now (out .entry)) r (now (out .exit)) ⌝ }
+{
+    if n == 0 {
+        return p;
+    }
+    let at = p.body;
+    let key = bodies[at];
+    let q = emit::pass(p, 2, 1);
+    let a = expr_at(contents, bodies, keep, q, out);
+    let f = emit::fields_of(p.lbl, 21, 0, x, key, emit::prevreg(a.low), 0);
+    let b = emit::push_at(keep, a, f, out);
+    table_items(n - 1, x, contents, bodies, keep, b, out)
+}
+
+fn match_table_assign(
+    x: u8,
+    contents: &[u8],
+    bodies: &[u8],
+    keep: bool,
+    lbl: u64,
+    low: emit::Low,
+    out: &mut [u8],
+) -> emit::Done
+    requires { ⌜ Reads (rights x) (now contents) (now bodies) low (now out) ⌝ }
+    requires { ⌜ getD (now contents) 0 0 ≡ 10 ⌝ }
+    ensures { λ r. ⌜ Front (rights x) (now (contents .entry)) (now (bodies .entry)) keep lbl low (now (out .entry)) r (now (out .exit)) ⌝ }
+{
+    let n = contents[1];
+    let p = emit::start(2, 0, lbl, low);
+    let f = emit::fields_of(lbl, 9, 6, x, 0, 0, 0);
+    let a = emit::push_at(keep, p, f, out);
+    table_items(n, x, contents, bodies, keep, a, out)
+}
+
+// Ldav and no store: x stays as it is.
+fn arrayaccess(
+    x: u8,
+    contents: &[u8],
+    bodies: &[u8],
+    keep: bool,
+    lbl: u64,
+    low: emit::Low,
+    out: &mut [u8],
+) -> emit::Done
+    requires { ⌜ Reads (rights x) (now contents) (now bodies) low (now out) ⌝ }
+    requires { ⌜ getD (now contents) 0 0 ≡ 13 ⌝ }
+    ensures { λ r. ⌜ Front (rights x) (now (contents .entry)) (now (bodies .entry)) keep lbl low (now (out .entry)) r (now (out .exit)) ⌝ }
+{
+    let name = bodies[0];
+    let p = emit::start(2, 1, lbl, low);
+    let a = expr_at(contents, bodies, keep, p, out);
+    let f = emit::fields_of(lbl, 7, 0, name, emit::prevreg(a.low), a.low.reg, 0);
+    emit::load_at(keep, a, f, out)
+}

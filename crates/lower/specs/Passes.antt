@@ -1,0 +1,127 @@
+-- The two passes over a tree: the first gives the refusal, and after each the records and the items are counted. Assumes nothing.
+use Prim.Native.Nat.{ℕ, zero, suc, _+_, _*_, _≤_, _<_}
+use mathlib.Core.Path.{_≡_, refl, sym, ap, _∙_}
+use mathlib.Core.Bool.{Bool, true, false, cond, _||_, _&&_}
+use mathlib.Core.List.{List, [], _∷_, _++_}
+use native.Mathlib.Omega.{arith}
+use lib.Dec.{leb, ltb, eqb}
+use lib.ListN.{length, length-append}
+use borrow.Author.Tests.{lt-leb, le-ltb, leb-false, eq-eqb}
+use Rattle.lent.specs.Bytes.{splice}
+use Rattle.lent.specs.Parts.{length-splice, splice-append, splice-comm}
+use Rattle.opc.specs.Op.{Instr, Code}
+use Rattle.tables.specs.ProgramBytes.{recordBytes, poolBytes}
+use Rattle.tables.specs.ProgramLaws.{items}
+use Rattle.compiler.specs.Lower.{Decl, Main, Place, Event, Reg, Push, Below, refusal, only, pushed, programOf}
+use Rattle.compiler.specs.Accepted.{unrefused-length}
+use Rattle.emit.specs.declared.Low.{Low}
+use Rattle.emit.specs.Run.{kept, refuse, full, counted, itemCount, step, after, wrote, Ready, Did}
+use Rattle.emit.specs.Laws.{Is, yes, no, is, refused-stays}
+use Rattle.emit.specs.Joins.{sectionOf, poolCount, only-kept, stays, reg-over, reg-in, push-over, push-in, below-in, counted-refused, counted-count, counted-reg, Room, refused-is, wrote-is, written, record-append, pool-append, length-pool, length-records}
+
+-- the items fit; the records are among the instructions counted
+pub record Fresh (es : List Event) (s : Low) : Type 0 where
+  pub few : s .recs ≤ s .count
+  pub room : s .items + poolCount (pushed (sectionOf (s .decls)) es) ≤ 1024
+
+-- ---- the refusal of the first pass
+
+fresh-full : (k : Bool) (s : Low) (i : Instr) (c : Code) → s .count < 1024 → s .recs ≤ s .count → s .items + poolCount (cond k (i ∷ c) c) ≤ 1024 → full k s (itemCount i) ≡ false
+fresh-full true s i c h r p = rw (lt-leb 1024 (s .count) h, lt-leb 1024 (s .recs) (omega arith), le-ltb 1024 (s .items + itemCount i) (omega (arith, p)))
+fresh-full false s i c h r p = rw (lt-leb 1024 (s .count) h)
+
+fresh-next : (k : Bool) (w : Place) (i : Instr) (es : List Event) (s : Low) → k ≡ kept (s .decls) (w .section) → Fresh (Push w i ∷ es) s → Fresh es (counted k s (itemCount i))
+fresh-next true w i es s e r =
+    let g = only-kept (s .decls) (w .section) i (pushed (sectionOf (s .decls)) es) in
+    let b = rw (g, ← e) at (r .room) in
+    record { few = omega (arith, r .few); room = omega (arith, b) }
+fresh-next false w i es s e r =
+    let g = only-kept (s .decls) (w .section) i (pushed (sectionOf (s .decls)) es) in
+    record { few = omega (arith, r .few); room = rw (g, ← e) at (r .room) }
+
+-- what is said of the rest of the events
+abbrev Rest : List Event → Type 0
+Rest es = (t : Low) → t .refused ≡ 0 → Fresh es t → after es t .refused ≡ refusal es (t .reg) (t .count)
+
+first-reg : (es : List Event) (s : Low) → Rest es → s .refused ≡ 0 → Fresh es s → Is (leb 96 (s .reg)) → after (Reg ∷ es) s .refused ≡ refusal (Reg ∷ es) (s .reg) (s .count)
+first-reg es s ih z r (yes e) =
+    let rhs : _≡_ {A = ℕ} 7 (refusal (Reg ∷ es) (s .reg) (s .count)) = rw e in
+    ap (λ (q : Low). after es q .refused) (reg-over s z e) ∙ stays es 7 s (omega arith) ∙ rhs
+first-reg es s ih z r (no e) =
+    let t : Low = record { reg = s .reg + 1; count = s .count; recs = s .recs; items = s .items; refused = s .refused; decls = s .decls } in
+    let n : s .reg + 1 ≡ suc (s .reg) = omega arith in
+    let rhs : refusal es (s .reg + 1) (s .count) ≡ refusal (Reg ∷ es) (s .reg) (s .count) = rw e (ap (λ (q : ℕ). refusal es q (s .count)) n) in
+    ap (λ (q : Low). after es q .refused) (reg-in s z e) ∙ ih t z (record { few = r .few; room = r .room }) ∙ rhs
+
+first-push : (w : Place) (i : Instr) (es : List Event) (s : Low) → Rest es → s .refused ≡ 0 → Fresh (Push w i ∷ es) s → Is (leb 1024 (s .count)) → after (Push w i ∷ es) s .refused ≡ refusal (Push w i ∷ es) (s .reg) (s .count)
+first-push w i es s ih z r (yes e) =
+    let rhs : _≡_ {A = ℕ} 7 (refusal (Push w i ∷ es) (s .reg) (s .count)) = rw e in
+    ap (λ (q : Low). after es q .refused) (push-over w i s z e) ∙ stays es 7 s (omega arith) ∙ rhs
+first-push w i es s ih z r (no e) =
+    let k = kept (s .decls) (w .section) in
+    let g = only-kept (s .decls) (w .section) i (pushed (sectionOf (s .decls)) es) in
+    let f : full k s (itemCount i) ≡ false = fresh-full k s i (pushed (sectionOf (s .decls)) es) (leb-false 1024 (s .count) e) (r .few) (rw g at (r .room)) in
+    let rhs : refusal es (s .reg) (suc (s .count)) ≡ refusal (Push w i ∷ es) (s .reg) (s .count) = rw e in
+    ap (λ (q : Low). after es q .refused) (push-in w i s z f)
+    ∙ ih (counted k s (itemCount i)) (counted-refused k s (itemCount i) ∙ z) (fresh-next k w i es s refl r)
+    ∙ ap (λ (q : ℕ). refusal es q (counted k s (itemCount i) .count)) (counted-reg k s (itemCount i))
+    ∙ ap (refusal es (s .reg)) (counted-count k s (itemCount i))
+    ∙ rhs
+
+-- the refusal is that of the events, however many instructions are pushed
+pub refused-first : (es : List Event) (s : Low) → s .refused ≡ 0 → Fresh es s → after es s .refused ≡ refusal es (s .reg) (s .count)
+refused-first [] s z r = z
+refused-first (Reg ∷ es) s z r = first-reg es s (λ t. refused-first es t) z (record { few = r .few; room = r .room }) (is (leb 96 (s .reg)))
+refused-first (Push w i ∷ es) s z r = first-push w i es s (λ t. refused-first es t) z r (is (leb 1024 (s .count)))
+refused-first (Below ∷ es) s z r = ap (λ (q : Low). after es q .refused) (below-in s z) ∙ stays es 6 s (omega arith)
+
+-- ---- the counts after a pass
+
+-- what a pass adds where nothing is refused
+pub record Ended (es : List Event) (s t : Low) : Type 0 where
+  pub recs : t .recs ≡ s .recs + length (pushed (sectionOf (s .decls)) es)
+  pub items : t .items ≡ s .items + poolCount (pushed (sectionOf (s .decls)) es)
+
+abbrev Ends : List Event → Type 0
+Ends es = (t : Low) → after es t .refused ≡ 0 → Ended es t (after es t)
+
+stopped : (es : List Event) (s : Low) {A : Type 0} → after es (refuse 7 s) .refused ≡ 0 → A
+stopped es s e = absurd (omega (arith, e, stays es 7 s (omega arith)))
+
+ends-reg : (es : List Event) (s : Low) → Ends es → s .refused ≡ 0 → Is (leb 96 (s .reg)) → after es (step Reg s) .refused ≡ 0 → Ended es s (after es (step Reg s))
+ends-reg es s ih o (yes e) z = stopped es s (ap (λ (q : Low). after es q .refused) (sym (reg-over s o e)) ∙ z)
+ends-reg es s ih o (no e) z =
+    let t : Low = record { reg = s .reg + 1; count = s .count; recs = s .recs; items = s .items; refused = s .refused; decls = s .decls } in
+    let q = reg-in s o e in
+    let d = ih t (ap (λ (x : Low). after es x .refused) (sym q) ∙ z) in
+    record { recs = ap (λ (x : Low). after es x .recs) q ∙ d .recs; items = ap (λ (x : Low). after es x .items) q ∙ d .items }
+
+push-full-step : (w : Place) (i : Instr) (s : Low) → s .refused ≡ 0 → full (kept (s .decls) (w .section)) s (itemCount i) ≡ true → step (Push w i) s ≡ refuse 7 s
+push-full-step w i s z e = rw (eq-eqb (s .refused) 0 z, e)
+
+ends-counted : (k : Bool) (i : Instr) (es : List Event) (s : Low) → Ends es → after es (counted k s (itemCount i)) .refused ≡ 0
+    → let c = pushed (sectionOf (s .decls)) es in
+    (after es (counted k s (itemCount i)) .recs ≡ s .recs + length (cond k (i ∷ c) c)) × (after es (counted k s (itemCount i)) .items ≡ s .items + poolCount (cond k (i ∷ c) c))
+ends-counted true i es s ih z = let d = ih (counted true s (itemCount i)) z in (omega (arith, d .recs), omega (arith, d .items))
+ends-counted false i es s ih z = let d = ih (counted false s (itemCount i)) z in (d .recs, d .items)
+
+ends-push : (w : Place) (i : Instr) (es : List Event) (s : Low) → Ends es → s .refused ≡ 0 → Is (full (kept (s .decls) (w .section)) s (itemCount i))
+    → after es (step (Push w i) s) .refused ≡ 0 → Ended (Push w i ∷ es) s (after es (step (Push w i) s))
+ends-push w i es s ih o (yes e) z = stopped es s (ap (λ (q : Low). after es q .refused) (sym (push-full-step w i s o e)) ∙ z)
+ends-push w i es s ih o (no e) z =
+    let k = kept (s .decls) (w .section) in
+    let g = only-kept (s .decls) (w .section) i (pushed (sectionOf (s .decls)) es) in
+    let q = push-in w i s o e in
+    let d = ends-counted k i es s ih (ap (λ (x : Low). after es x .refused) (sym q) ∙ z) in
+    record {
+      recs = ap (λ (x : Low). after es x .recs) q ∙ d .0 ∙ ap (λ (c : Code). s .recs + length c) (sym g);
+      items = ap (λ (x : Low). after es x .items) q ∙ d .1 ∙ ap (λ (c : Code). s .items + poolCount c) (sym g);
+    }
+
+pub ended : (es : List Event) (s : Low) → after es s .refused ≡ 0 → Ended es s (after es s)
+ended [] s z = record { recs = omega arith; items = omega arith }
+ended (Reg ∷ es) s z =
+    let d = ends-reg es s (λ t. ended es t) (refused-stays (Reg ∷ es) s z) (is (leb 96 (s .reg))) z in
+    record { recs = d .recs; items = d .items }
+ended (Push w i ∷ es) s z = ends-push w i es s (λ t. ended es t) (refused-stays (Push w i ∷ es) s z) (is (full (kept (s .decls) (w .section)) s (itemCount i))) z
+ended (Below ∷ es) s z = absurd (omega (arith, z, ap (λ (q : Low). after es q .refused) (below-in s (refused-stays (Below ∷ es) s z)), stays es 6 s (omega arith)))

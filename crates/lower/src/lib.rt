@@ -1,0 +1,74 @@
+// Lowering of a tree file to a program buffer: compiler.rs, `compile`, and the call `lower`.
+ghost use mathlib.Core.Path.{_≡_};
+ghost use mathlib.Core.List.{List};
+ghost use Prim.Native.Nat.{ℕ};
+ghost use Rattle.ast.specs.Tree.{Stmts};
+ghost use Rattle.ast.specs.File.{Tree, readTree};
+ghost use Rattle.ast.specs.Answer.{answerOf};
+ghost use Rattle.lower.specs.LowerCall.{answered, lowerCall};
+ghost use Rattle.lower.specs.Compile.{Spelt, Cleared, Compiled};
+
+// The program of a tree in a buffer of zeros: 0, or 6 or 7. The first pass writes the declarations, the second the code.
+fn compile(entries: &[u8], bodies: &[u8], program: &mut [u8]) -> u64
+    requires { ⌜ ((t : Stmts) × Spelt t (now entries) (now bodies)) ⌝ }
+    requires { ⌜ ((rest : List ℕ) × Cleared rest (now program)) ⌝ }
+    ensures { λ r. ⌜ ((t : Stmts) (rest : List ℕ) → Spelt t (now (entries .entry)) (now (bodies .entry)) → Cleared rest (now (program .entry)) → Compiled t rest r (now (program .exit))) ⌝ }
+{
+    let decls = emit::Low {
+        reg: 0,
+        count: 0,
+        recs: 0,
+        items: 0,
+        refused: 0,
+        decls: true,
+    };
+    let d = stmt::lower_tree(entries, bodies, decls, program);
+    if d.refused != 0 {
+        return d.refused;
+    }
+    let code = emit::Low {
+        reg: 0,
+        count: 0,
+        recs: d.recs,
+        items: d.items,
+        refused: 0,
+        decls: false,
+    };
+    let c = stmt::lower_tree(entries, bodies, code, program);
+    tables::compute(program, c.recs);
+    lent::put_u16(program, 34944, c.recs as u64);
+    lent::put_u16(program, 34946, d.recs as u64);
+    0
+}
+
+// A file that holds a tree: its entries and its nodes' bodies are lowered.
+fn lower_read(file: &[u8], program: &mut [u8]) -> u64
+    requires { ⌜ answerOf (readTree (now file)) ≡ 0 ⌝ }
+    requires { ⌜ ((rest : List ℕ) × Cleared rest (now program)) ⌝ }
+    ensures { λ r. ⌜ ((t : Stmts) (rest : List ℕ) → readTree (now (file .entry)) ≡ Tree t → Cleared rest (now (program .entry)) → Compiled t rest r (now (program .exit))) ⌝ }
+{
+    let first = 3 + file[2] as usize;
+    let size = first + 2 * (lent::get_u16(file, 0) as usize);
+    let total = ast::bodies::text_bytes(&file[3..first]);
+    compile(&file[first..size], &file[size + total..], program)
+}
+
+// The number of the first refusal, or 0 and the file's program in the buffer.
+pub fn lower(file: &[u8], program: &mut [u8]) -> u64
+    ensures { λ r. ⌜ answered r (now (program .exit)) ≡ lowerCall (now (file .entry)) (now (program .entry)) ⌝ }
+{
+    if program.len() < 40960 {
+        return 9;
+    }
+    lent::clear(program, 40960);
+    let n = ast::read(file);
+    if n != 0 {
+        return n;
+    }
+    let r = lower_read(file, program);
+    if r != 0 {
+        lent::clear(program, 40960);
+        return r;
+    }
+    0
+}

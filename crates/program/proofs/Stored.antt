@@ -1,0 +1,136 @@
+-- The stored tables against those of the code: `labelBytes` and `functionBytes`. Assumes nothing.
+use mathlib.Core.Path.{_≡_, refl, sym, ap, ap₂, _∙_}
+use mathlib.Core.Bool.{Bool, true, false, cond, not, _&&_, and-assoc}
+use mathlib.Core.List.{List, [], _∷_, _++_}
+use mathlib.Core.Option.{Option, none, some}
+use Prim.Native.Nat.{ℕ, zero, suc, _+_, _*_, _-_, _≤_, _<_}
+use native.Mathlib.Omega.{arith}
+use lib.Dec.{T, ltb, eqb}
+use lib.ListN.{length, getD}
+use borrow.Author.Tests.{eqb-true, eqb-false, eq-eqb, ne-eqb, lt-ltb}
+use Rattle.lent.specs.Bytes.{beValue, beBytes, part, sameBytes, concat, AreBytes}
+use Rattle.lent.specs.Each.{each-part}
+use Rattle.lent.specs.Parts.{length-part, part-add}
+use Rattle.lent.specs.Numbers.{beValue-beBytes, beBytes-beValue, length-beBytes}
+use Rattle.lent.specs.Same.{eq-same, ne-same}
+use Rattle.opc.specs.Op.{label, op, Code}
+use Rattle.tables.specs.Tables.{declares, entered, labelAt, declared, functionAt}
+use Rattle.tables.specs.ProgramBytes.{tabulate, each, indexWord, labelBytes, functionBytes}
+use Rattle.program.specs.Fits.{scan, lblOf, nameOf, isFn, enters, marked, labelEntry, functionEntry, sameTable}
+use Rattle.program.proofs.Scan.{scan-same}
+
+-- ---- a table in its bytes
+
+same-append : (p q r s : List ℕ) → length p ≡ length r → sameBytes (p ++ q) (r ++ s) ≡ (sameBytes p r && sameBytes q s)
+same-append [] q [] s e = refl
+same-append [] q (y ∷ r) s e = absurd (omega arith)
+same-append (x ∷ p) q [] s e = absurd (omega arith)
+same-append (x ∷ p) q (y ∷ r) s e =
+    ap (λ (t : Bool). eqb x y && t) (same-append p q r s (omega arith)) ∙ sym (and-assoc (eqb x y) (sameBytes p r) (sameBytes q s))
+
+-- two bytes are those of a number, or the numbers differ
+same-two : (p : List ℕ) (v : ℕ) → AreBytes p → length p ≡ 2 → v < 65536 → sameBytes p (beBytes 2 v) ≡ eqb (beValue p + 1) (suc v)
+same-two p v h e l = by-test (eqb (beValue p + 1) (suc v)) refl
+  where
+    by-test : (t : Bool) → eqb (beValue p + 1) (suc v) ≡ t → sameBytes p (beBytes 2 v) ≡ t
+    by-test true q =
+        let r : beValue p ≡ v = omega (arith, eqb-true (beValue p + 1) (suc v) q) in
+        eq-same p (beBytes 2 v) (sym (beBytes-beValue h) ∙ ap₂ (λ (x y : ℕ). beBytes x y) e r)
+    by-test false q = ne-same p (beBytes 2 v) (λ r. eqb-false (beValue p + 1) (suc v) q (omega (arith, ap beValue r, beValue-beBytes 2 v l)))
+
+module _ (b : List ℕ) (bytes : AreBytes b) (at : ℕ) (h : ℕ → ℕ) where
+  table-from : (n i : ℕ) → at + 2 * (i + n) ≤ length b → ((l : ℕ) → i ≤ l → l < i + n → h l < 65536)
+      → sameBytes (part b (at + 2 * i) (2 * n)) (concat (tabulate i n (λ l. beBytes 2 (h l)))) ≡ scan n i (λ l. eqb (beValue (part b (at + 2 * l) 2) + 1) (suc (h l)))
+  table-from zero i r g = refl
+  table-from (suc n) i r g =
+      let p = part b (at + 2 * i) 2 in
+      let lp : length p ≡ 2 = length-part b (at + 2 * i) 2 (omega arith) in
+      let e : 2 * suc n ≡ 2 + 2 * n = omega arith in
+      let f : at + 2 * i + 2 ≡ at + 2 * suc i = omega arith in
+      ap (λ (k : ℕ). sameBytes (part b (at + 2 * i) k) (beBytes 2 (h i) ++ concat (tabulate (suc i) n (λ l. beBytes 2 (h l))))) e
+      ∙ ap (λ (k : List ℕ). sameBytes k (beBytes 2 (h i) ++ concat (tabulate (suc i) n (λ l. beBytes 2 (h l))))) (part-add b (at + 2 * i) 2 (2 * n))
+      ∙ same-append p (part b (at + 2 * i + 2) (2 * n)) (beBytes 2 (h i)) (concat (tabulate (suc i) n (λ l. beBytes 2 (h l)))) (lp ∙ sym (length-beBytes 2 (h i)))
+      ∙ ap₂ (λ (x y : Bool). x && y) (same-two p (h i) (each-part (at + 2 * i) 2 bytes) lp (g i (omega arith) (omega arith)))
+      (ap (λ (k : ℕ). sameBytes (part b k (2 * n)) (concat (tabulate (suc i) n (λ l. beBytes 2 (h l))))) f
+      ∙ table-from n (suc i) (omega arith) (λ l x y. g l (omega arith) (omega arith)))
+
+  -- where the entries of g are those of h, with 1 added
+  pub table-same : (n : ℕ) (g : ℕ → ℕ) → at + 2 * n ≤ length b → ((l : ℕ) → suc (h l) ≡ g l) → ((l : ℕ) → g l ≤ 65536)
+      → sameBytes (part b at (2 * n)) (each n (λ l. beBytes 2 (h l))) ≡ sameTable b at n g
+  unfolding sameTable
+  table-same n g r q s =
+      let z : at ≡ at + 2 * 0 = omega arith in
+      ap (λ (k : ℕ). sameBytes (part b k (2 * n)) (each n (λ l. beBytes 2 (h l)))) z
+      ∙ table-from n 0 (omega arith) (λ l x y. omega (arith, q l, s l))
+      ∙ scan-same _ _ n 0 (λ l x y. ap (eqb (beValue (part b (at + 2 * l) 2) + 1)) (q l))
+
+-- a table that was made
+pub table-made : (b : List ℕ) (at size : ℕ) (t : List ℕ) (g : ℕ → ℕ) {r : Bool} → r ≡ sameTable b at (length t) (λ l. getD t l 0) → length t ≡ size → ((l : ℕ) → l < size → getD t l 0 ≡ g l)
+    → r ≡ sameTable b at size g
+unfolding sameTable
+table-made b at size t g e k h =
+    e
+    ∙ ap (λ (n : ℕ). scan n 0 (λ l. eqb (beValue (part b (at + 2 * l) 2) + 1) (getD t l 0))) k
+    ∙ scan-same _ _ size 0 (λ l p q. ap (eqb (beValue (part b (at + 2 * l) 2) + 1)) (h l (omega arith)))
+
+-- ---- the tables of code whose records are those from i on
+
+module _ (b : List ℕ) where
+  abbrev pub Spelt : Code → ℕ → Type 0
+  Spelt [] i = T true
+  Spelt (c ∷ cs) i = (label c ≡ lblOf b i) × ((x : ℕ) → declares (op c) x ≡ (isFn b i && eqb (nameOf b i) x)) × Spelt cs (suc i)
+
+marked-small : (w : ℕ → Bool) (k : ℕ → ℕ) (l m i x n : ℕ) → x ≤ n → i + m + 1 ≤ n → marked w k l m i x ≤ n
+marked-small w k l zero i x n h g = h
+marked-small w k l (suc m) i x n h g = marked-small w k l m (suc i) (cond (w i && eqb (k i) l) (i + 2) x) n (by-test (w i && eqb (k i) l)) (omega arith)
+  where
+    by-test : (t : Bool) → cond t (i + 2) x ≤ n
+    by-test true = omega arith
+    by-test false = h
+
+-- an index that may be missing, with 1 more
+next-entry : (t : Bool) (i : ℕ) (o : Option ℕ) → suc (indexWord (cond t (some i) o)) ≡ cond t (i + 2) (suc (indexWord o))
+next-entry true i o = omega arith
+next-entry false i o = refl
+
+module _ (b : List ℕ) where
+  entered-marked : (cs : Code) (l i was : ℕ) (o : Option ℕ) → Spelt b cs i → was ≡ lblOf b (i - 1)
+      → suc (indexWord (entered cs l was i o)) ≡ marked (enters b) (lblOf b) l (length cs) i (suc (indexWord o))
+  entered-marked [] l i was o s e = refl
+  entered-marked (c ∷ cs) l i was o s e =
+      let k : i ≡ suc i - 1 = omega arith in
+      entered-marked cs l (suc i) (label c) (cond (not (eqb (label c) was) && eqb (label c) l) (some i) o) (s .2) (s .0 ∙ ap (lblOf b) k)
+      ∙ ap (marked (enters b) (lblOf b) l (length cs) (suc i))
+      (next-entry (not (eqb (label c) was) && eqb (label c) l) i o
+      ∙ ap₂ (λ (x y : ℕ). cond (not (eqb x y) && eqb x l) (i + 2) (suc (indexWord o))) (s .0) e)
+
+  label-entry : (c : Code) (l : ℕ) → Spelt b c 0 → suc (indexWord (labelAt c l)) ≡ labelEntry b (length c) l
+  label-entry [] l s = refl
+  label-entry (c ∷ cs) l s =
+      entered-marked (c ∷ cs) l 0 (label c) (cond (eqb l 0) (some 0) none) s (s .0)
+      ∙ ap (marked (enters b) (lblOf b) l (suc (length cs)) 0) (next-entry (eqb l 0) 0 none ∙ first (eqb l 0) refl)
+    where
+      first : (t : Bool) → eqb l 0 ≡ t → _≡_ {A = ℕ} (cond t 2 1) (cond (ltb 0 (suc (length cs)) && eqb 0 l) 2 1)
+      first true e = sym (rw (lt-ltb 0 (suc (length cs)) (omega arith), eq-eqb 0 l (omega (arith, eqb-true l 0 e))))
+      first false e = sym (rw (lt-ltb 0 (suc (length cs)) (omega arith), ne-eqb 0 l (λ q. eqb-false l 0 e (sym q))))
+
+  declared-marked : (cs : Code) (x i : ℕ) (o : Option ℕ) → Spelt b cs i → suc (indexWord (declared cs x i o)) ≡ marked (isFn b) (nameOf b) x (length cs) i (suc (indexWord o))
+  declared-marked [] x i o s = refl
+  declared-marked (c ∷ cs) x i o s =
+      declared-marked cs x (suc i) (cond (declares (op c) x) (some i) o) (s .2)
+      ∙ ap (marked (isFn b) (nameOf b) x (length cs) (suc i)) (next-entry (declares (op c) x) i o ∙ ap (λ (t : Bool). cond t (i + 2) (suc (indexWord o))) (s .1 x))
+
+  module _ (bytes : AreBytes b) (room : 40960 ≤ length b) (c : Code) (few : length c ≤ 1024) (s : Spelt b c 0) where
+    pub labels-same : sameBytes (part b 32768 2048) (labelBytes c) ≡ sameTable b 32768 1024 (labelEntry b (length c))
+    labels-same =
+        table-same b bytes 32768 (λ l. indexWord (labelAt c l)) 1024 (labelEntry b (length c)) (omega arith) (λ l. label-entry c l s)
+        (λ l. marked-small (enters b) (lblOf b) l (length c) 0 (cond (ltb 0 (length c) && eqb 0 l) 2 1) 65536 (small (ltb 0 (length c) && eqb 0 l)) (omega arith))
+      where
+        small : (t : Bool) → cond t 2 1 ≤ 65536
+        small true = omega arith
+        small false = omega arith
+
+    pub functions-same : sameBytes (part b 34816 128) (functionBytes c) ≡ sameTable b 34816 64 (functionEntry b (length c))
+    functions-same =
+        table-same b bytes 34816 (λ x. indexWord (functionAt c x)) 64 (functionEntry b (length c)) (omega arith) (λ x. declared-marked c x 0 none s)
+        (λ x. marked-small (isFn b) (nameOf b) x (length c) 0 1 65536 (omega arith) (omega arith))

@@ -1,0 +1,91 @@
+use mathlib.Core.Path.{sym, ap, _∙_}
+use lib.ListN.{getD}
+use Prim.Native.Nat.{ℕ, _+_, _*_, _-_, _≤_}
+use native.Mathlib.Omega.{arith}
+use lib.Dec.{eqb}
+use borrow.Author.Tests.{eqb-true}
+use Rattle.program.specs.Fits.{isFn, nameOf, recordAt}
+use Rattle.program.proofs.Scan.{scan-at}
+use Rattle.program.proofs.Places.{first-byte, byte-of}
+use Rattle.program.proofs.Marks.{Filling, fill-first, fill-turn, fill-end, name-small}
+use Rattle.program.proofs.fill_functions.Statement.{statement}
+use Rattle.program.proofs.fill_functions.Tie as tie
+
+abbrev Inv-loop : tie.InvT-loop
+Inv-loop program n t₀ i₀ t i = (i ≤ n) × Filling (isFn program) (nameOf program) 64 n t₀ i t
+
+abbrev μ-loop : tie.MeasureT-loop
+μ-loop program n t₀ i₀ t i = n - i
+
+loop-holds : tie.Need-loop-holds Inv-loop μ-loop
+loop-holds c = let s = c .before .before in let a = s .args in (omega arith, fill-first (isFn (a .program .now)) (nameOf (a .program .now)) 64 (a .n) (a .t .now) (s .pre .3))
+
+mul-at : tie.Need-mul-at Inv-loop μ-loop
+mul-at c = omega arith
+
+shared-slice-read-mark : tie.Need-shared-slice-read-mark Inv-loop μ-loop
+shared-slice-read-mark c = omega arith
+
+add-mark : tie.Need-add-mark Inv-loop μ-loop
+add-mark c = omega arith
+
+shared-slice-read-mark-2 : tie.Need-shared-slice-read-mark-2 Inv-loop μ-loop
+shared-slice-read-mark-2 c = omega arith
+
+cast-mark : tie.Need-cast-mark Inv-loop μ-loop
+cast-mark c = omega (arith, c .shared-slice-known3 .given (16 * c .before .before .before .before .loop .i + 4))
+
+mark-requires : tie.Need-mark-requires Inv-loop μ-loop
+mark-requires c κs =
+    let a = c .before .before .before .before .before .before .before .args in
+    let l = c .before .before .before .before .loop in
+    let b = a .program .now in
+    let k = scan-at (recordAt b) (a .n) 0 (c .before .before .before .before .before .before .before .pre .2) (l .i) (omega arith) (omega arith) in
+    (omega arith, λ q. omega (arith, l .inv .1 .sized, byte-of b (16 * l .i) 4 (omega arith), name-small b (l .i) k (sym (first-byte b (16 * l .i)) ∙ eqb-true _ 16 q)))
+
+add-i : tie.Need-add-i Inv-loop μ-loop
+add-i c = omega arith
+
+loop-less : tie.Need-loop-less Inv-loop μ-loop
+loop-less c = omega arith
+
+loop-again : tie.Need-loop-again Inv-loop μ-loop
+loop-again c =
+    let a = c .before .before .before .before .before .before .before .before .before .before .args in
+    let l = c .before .before .before .before .before .before .before .loop in
+    let b = a .program .now in
+    let at = 16 * l .i in
+    let k = scan-at (recordAt b) (a .n) 0 (c .before .before .before .before .before .before .before .before .before .before .pre .2) (l .i) (omega arith) (omega arith) in (
+      omega arith,
+      fill-turn (isFn b) (nameOf b) 64 (a .n) (a .t .now) (l .i) (l .t) (eqb (getD b at 0) 16) (getD b (at + 4) 0) (c .before .before .before .before .before .before .loop-test .taken) (l .inv .1)
+          (ap (λ (x : ℕ). eqb x 16) (first-byte b at)) (byte-of b at 4 (omega arith)) (λ q. omega (arith, byte-of b at 4 (omega arith), name-small b (l .i) k (sym (first-byte b at) ∙ eqb-true (getD b at 0) 16 q)))
+          (c .before .before .mark .ensures),
+    )
+
+same-length : tie.Need-same-length Inv-loop μ-loop
+same-length c = c .before .loop .inv .1 .sized ∙ sym (c .before .before .before .before .pre .3)
+
+returns : tie.Need-returns Inv-loop μ-loop
+returns c =
+    let a = c .before .before .before .before .args in
+    let l = c .before .loop in
+    (l .inv .1 .sized, λ x h. fill-end (isFn (a .program .now)) (nameOf (a .program .now)) 64 (a .n) (a .t .now) (l .i) (l .t) (c .loop-test .left) (l .inv .1) x h)
+
+pub fill-functions-spec : {M : Type 1} → statement M
+fill-functions-spec =
+    tie.close
+    (tie.spec
+    Inv-loop
+    μ-loop
+    loop-holds
+    mul-at
+    shared-slice-read-mark
+    add-mark
+    shared-slice-read-mark-2
+    cast-mark
+    mark-requires
+    add-i
+    loop-less
+    loop-again
+    same-length
+    returns)

@@ -1,0 +1,95 @@
+use mathlib.Core.Path.{_≡_, sym, ap, ap₂, _∙_}
+use mathlib.Core.Bool.{not}
+use lib.Dec.{ltb, eqb}
+use Prim.Native.Nat.{ℕ, _+_, _-_, _≤_}
+use native.Mathlib.Omega.{arith}
+use Rattle.program.specs.Fits.{enters, lblOf, recordAt, marked}
+use Rattle.program.proofs.Scan.{scan-at}
+use Rattle.program.proofs.Marks.{mark-length, mark-at, Filling, fill-first, fill-turn, fill-end, label-small}
+use Rattle.program.proofs.fill_labels.Statement.{statement}
+use Rattle.program.proofs.fill_labels.Tie as tie
+
+abbrev Inv-loop : tie.InvT-loop
+Inv-loop program n t₀ was₀ i₀ t was i = (i ≤ n) × (was ≡ lblOf program (i - 1)) × Filling (enters program) (lblOf program) 1024 n t₀ i t
+
+abbrev μ-loop : tie.MeasureT-loop
+μ-loop program n t₀ was₀ i₀ t was i = n - i
+
+mark-requires : tie.Need-mark-requires Inv-loop μ-loop
+mark-requires c κs = (omega arith, λ _. omega arith)
+
+label-requires : tie.Need-label-requires Inv-loop μ-loop
+label-requires c κs = (omega arith, omega arith)
+
+loop-holds : tie.Need-loop-holds Inv-loop μ-loop
+loop-holds c =
+    let s = c .before .before .before .before .before .before .before in
+    let a = s .args in
+    let b = a .program .now in
+    (omega arith, c .label .ensures, fill-first (enters b) (lblOf b) 1024 (a .n) (c .before .before .before .mark .last .0) (mark-length (a .t .now) (ltb 0 (a .n)) 0 0 (c .before .before .before .mark .ensures) ∙ s .pre .3))
+
+label-requires-2 : tie.Need-label-requires-2 Inv-loop μ-loop
+label-requires-2 c κs = (omega arith, omega arith)
+
+mark-requires-2 : tie.Need-mark-requires-2 Inv-loop μ-loop
+mark-requires-2 c κs =
+    let s = c .before .before .before .before .before .before .before .before .before .before .before in
+    let a = s .args in
+    let l = c .before .before .before .loop in
+    let b = a .program .now in
+    let k = scan-at (recordAt b) (a .n) 0 (s .pre .2) (l .i) (omega arith) (omega arith) in
+    (omega arith, λ _. omega (arith, l .inv .2 .sized, c .before .label2 .ensures, label-small b (l .i) k))
+
+add-i : tie.Need-add-i Inv-loop μ-loop
+add-i c = omega arith
+
+loop-less : tie.Need-loop-less Inv-loop μ-loop
+loop-less c = omega arith
+
+loop-again : tie.Need-loop-again Inv-loop μ-loop
+loop-again c =
+    let s = c .before .before .before .before .before .before .before .before .before .before .before .before .before .before in
+    let a = s .args in
+    let l = c .before .before .before .before .before .before .loop in
+    let b = a .program .now in
+    let new = c .before .before .before .before .label2 in
+    let k = scan-at (recordAt b) (a .n) 0 (s .pre .2) (l .i) (omega arith) (omega arith) in
+    let e : l .i ≡ l .i + 1 - 1 = omega arith in (
+      omega arith,
+      new .ensures ∙ ap (lblOf b) e,
+      fill-turn (enters b) (lblOf b) 1024 (a .n) (c .before .before .before .before .before .before .before .before .before .before .mark .last .0) (l .i) (l .t) (not (eqb (new .result) (l .was))) (new .result) (c .before .before .before .before .before .loop-test .taken) (l .inv .2)
+          (ap₂ (λ (x y : ℕ). not (eqb x y)) (new .ensures) (l .inv .1)) (new .ensures) (λ _. omega (arith, new .ensures, label-small b (l .i) k)) (c .before .before .mark2 .ensures),
+    )
+
+same-length : tie.Need-same-length Inv-loop μ-loop
+same-length c = c .before .loop .inv .2 .sized ∙ sym (c .before .before .before .before .before .before .before .before .before .pre .3)
+
+returns : tie.Need-returns Inv-loop μ-loop
+returns c =
+    let s = c .before .before .before .before .before .before .before .before .before in
+    let a = s .args in
+    let l = c .before .loop in
+    let b = a .program .now in
+    let m = c .before .before .before .before .before .mark in (
+      l .inv .2 .sized,
+      λ x h.
+          fill-end (enters b) (lblOf b) 1024 (a .n) (m .last .0) (l .i) (l .t) (c .loop-test .left) (l .inv .2) x h
+          ∙ ap (marked (enters b) (lblOf b) x (a .n) 0) (mark-at (a .t .now) (ltb 0 (a .n)) 0 0 (m .ensures) (λ _. omega (arith, s .pre .3)) x),
+    )
+
+pub fill-labels-spec : {M : Type 1} → statement M
+fill-labels-spec =
+    tie.close
+    (tie.spec
+    Inv-loop
+    μ-loop
+    mark-requires
+    label-requires
+    loop-holds
+    label-requires-2
+    mark-requires-2
+    add-i
+    loop-less
+    loop-again
+    same-length
+    returns)

@@ -1,0 +1,79 @@
+-- `sifv::table::insert_new` meets its contract. Assumes nothing.
+use mathlib.Core.Path.{sym, ap, _∙_, subst}
+use Prim.Native.Nat.{ℕ, _+_, _≤_, _<_}
+use mathlib.Core.List.{List}
+use native.Mathlib.Omega.{arith}
+use lib.ListN.{set, length-set}
+use Rattle.lent.specs.Bytes.{part, splice}
+use Rattle.sifv.specs.Slot.{decodeSlot}
+use Rattle.sifv.specs.Seen.{seen, plain, kindIn, setItem}
+use Rattle.sifv.specs.Formed.{Formed}
+use Rattle.sifv.specs.Gaps.{open-length}
+use Rattle.sifv.specs.Inserts.{low-same, new-place, new-from, new-length, new-law}
+use borrow.Author.Needs.{needs}
+use Rattle.sifv.proofs.table.insert_new.Statement.{statement}
+use Rattle.sifv.proofs.table.insert_new.Tie as tie
+
+open-entry-requires : tie.Need-open-entry-requires
+open-entry-requires c κs = (c .before .before .pre .0 .0, new-place (c .before .before .args .s .now) (c .before .before .args .at) (c .before .before .args .n) (c .before .before .args .i) (c .before .before .args .key) (c .before .before .pre .0 .0) (c .before .before .pre .0 .3) (c .before .before .pre .0 .4) (c .before .before .pre .0 .5) (c .before .before .pre .0 .6) (c .before .before .pre .1 .0), c .before .before .pre .0 .6)
+
+low-requires : tie.Need-low-requires
+low-requires c κs = search needs
+
+add-s : tie.Need-add-s
+add-s c = omega (arith, new-place (c .before .before .before .before .before .before .args .s .now) (c .before .before .before .before .before .before .args .at) (c .before .before .before .before .before .before .args .n) (c .before .before .before .before .before .before .args .i) (c .before .before .before .before .before .before .args .key) (c .before .before .before .before .before .before .pre .0 .0) (c .before .before .before .before .before .before .pre .0 .3) (c .before .before .before .before .before .before .pre .0 .4) (c .before .before .before .before .before .before .pre .0 .5) (c .before .before .before .before .before .before .pre .0 .6) (c .before .before .before .before .before .before .pre .1 .0))
+
+add-s-2 : tie.Need-add-s-2
+add-s-2 c = omega (arith, new-place (c .before .before .before .before .before .before .args .s .now) (c .before .before .before .before .before .before .args .at) (c .before .before .before .before .before .before .args .n) (c .before .before .before .before .before .before .args .i) (c .before .before .before .before .before .before .args .key) (c .before .before .before .before .before .before .pre .0 .0) (c .before .before .before .before .before .before .pre .0 .3) (c .before .before .before .before .before .before .pre .0 .4) (c .before .before .before .before .before .before .pre .0 .5) (c .before .before .before .before .before .before .pre .0 .6) (c .before .before .before .before .before .before .pre .1 .0), c .before .before .before .before .before .before .pre .0 .0)
+
+slice-write-s : tie.Need-slice-write-s
+slice-write-s c =
+    let g = new-place (c .before .before .before .before .before .before .args .s .now) (c .before .before .before .before .before .before .args .at) (c .before .before .before .before .before .before .args .n) (c .before .before .before .before .before .before .args .i) (c .before .before .before .before .before .before .args .key) (c .before .before .before .before .before .before .pre .0 .0) (c .before .before .before .before .before .before .pre .0 .3) (c .before .before .before .before .before .before .pre .0 .4) (c .before .before .before .before .before .before .pre .0 .5) (c .before .before .before .before .before .before .pre .0 .6) (c .before .before .before .before .before .before .pre .1 .0) in
+    omega (arith, open-length (c .before .before .before .before .before .before .args .s .now) (c .before .before .before .before .before .before .args .at) (c .before .before .before .before .before .before .args .i) (c .before .before .before .before .before .before .args .n) (c .before .before .before .before .before .before .pre .0 .0) (c .before .before .before .before .before .before .pre .0 .6) g (c .before .before .before .open-entry .ensures))
+
+store-item-requires : tie.Need-store-item-requires
+store-item-requires c κs =
+    let g = new-place (c .before .before .before .before .before .before .before .args .s .now) (c .before .before .before .before .before .before .before .args .at) (c .before .before .before .before .before .before .before .args .n) (c .before .before .before .before .before .before .before .args .i) (c .before .before .before .before .before .before .before .args .key) (c .before .before .before .before .before .before .before .pre .0 .0) (c .before .before .before .before .before .before .before .pre .0 .3) (c .before .before .before .before .before .before .before .pre .0 .4) (c .before .before .before .before .before .before .before .pre .0 .5) (c .before .before .before .before .before .before .before .pre .0 .6) (c .before .before .before .before .before .before .before .pre .1 .0) in
+    let q = new-from (c .before .before .before .before .before .before .before .args .s .now) (c .before .before .before .before .before .before .before .args .at) (c .before .before .before .before .before .before .before .args .n) (c .before .before .before .before .before .before .before .args .i) (c .before .before .before .before .before .before .before .args .key) (c .before .before .before .before .before .before .before .pre .0 .0) (c .before .before .before .before .before .before .before .pre .0 .3) (c .before .before .before .before .before .before .before .pre .0 .4) (c .before .before .before .before .before .before .before .pre .0 .5) (c .before .before .before .before .before .before .before .pre .0 .6) (c .before .before .before .before .before .before .before .pre .1 .0) (c .before .before .before .before .before .before .before .args .from) (c .before .before .before .before .before .before .before .pre .0 .2) (c .before .before .before .before .before .before .before .pre .1 .5) (c .before .before .before .before .open-entry .ensures) (ap (set (c .before .before .before .before .open-entry .last .0) (c .before .before .before .before .before .before .before .args .at + (232 + c .before .before .before .before .before .before .before .args .i))) (low-same (c .before .before .before .before .before .before .before .args .key) (c .before .low .ensures) (omega (arith, c .before .before .before .before .before .before .before .pre .1 .2)))) in
+    (omega (arith, q .1, c .before .before .before .before .before .before .before .pre .0 .0), omega (arith, q .1, c .before .before .before .before .before .before .before .pre .0 .1), c .before .before .before .before .before .before .before .pre .0 .2, omega (arith, g, c .before .before .before .before .before .before .before .pre .0 .6), subst Formed (sym (q .0)) (c .before .before .before .before .before .before .before .pre .1 .3), subst (λ (r : List ℕ). 0 < kindIn (seen (decodeSlot r))) (sym (q .0)) (c .before .before .before .before .before .before .before .pre .1 .4), subst (λ (r : List ℕ). kindIn (seen (decodeSlot r)) ≤ 4) (sym (q .0)) (c .before .before .before .before .before .before .before .pre .1 .5))
+
+add-low : tie.Need-add-low
+add-low c = search needs
+
+low-requires-2 : tie.Need-low-requires-2
+low-requires-2 c κs = search needs
+
+add-s-3 : tie.Need-add-s-3
+add-s-3 c = search needs
+
+slice-write-s-2 : tie.Need-slice-write-s-2
+slice-write-s-2 c = omega (arith, new-length (c .before .before .before .before .before .before .before .before .before .before .before .args .s .now) (c .before .before .before .before .before .before .before .before .before .before .before .args .at) (c .before .before .before .before .before .before .before .before .before .before .before .args .n) (c .before .before .before .before .before .before .before .before .before .before .before .args .i) (c .before .before .before .before .before .before .before .before .before .before .before .args .key) (c .before .before .before .before .before .before .before .before .before .before .before .pre .0 .0) (c .before .before .before .before .before .before .before .before .before .before .before .pre .0 .3) (c .before .before .before .before .before .before .before .before .before .before .before .pre .0 .4) (c .before .before .before .before .before .before .before .before .before .before .before .pre .0 .5) (c .before .before .before .before .before .before .before .before .before .before .before .pre .0 .6) (c .before .before .before .before .before .before .before .before .before .before .before .pre .1 .0) (plain (seen (decodeSlot (part (set (c .before .before .before .before .before .before .before .before .open-entry .last .0) (c .before .before .before .before .before .before .before .before .before .before .before .args .at + (232 + c .before .before .before .before .before .before .before .before .before .before .before .args .i)) (c .before .before .before .before .before .low .result)) (c .before .before .before .before .before .before .before .before .before .before .before .args .from) 256)))) (c .before .before .before .before .before .before .before .before .open-entry .ensures) (ap (set (c .before .before .before .before .before .before .before .before .open-entry .last .0) (c .before .before .before .before .before .before .before .before .before .before .before .args .at + (232 + c .before .before .before .before .before .before .before .before .before .before .before .args .i))) (low-same (c .before .before .before .before .before .before .before .before .before .before .before .args .key) (c .before .before .before .before .before .low .ensures) (omega (arith, c .before .before .before .before .before .before .before .before .before .before .before .pre .1 .2)))) (c .before .before .before .store-item .ensures))
+
+same-length : tie.Need-same-length
+same-length c = length-set (c .before .before .before .store-item .last .0) (c .before .before .before .before .before .before .before .before .before .before .before .args .at + 1) (c .low2 .result) ∙ new-length (c .before .before .before .before .before .before .before .before .before .before .before .args .s .now) (c .before .before .before .before .before .before .before .before .before .before .before .args .at) (c .before .before .before .before .before .before .before .before .before .before .before .args .n) (c .before .before .before .before .before .before .before .before .before .before .before .args .i) (c .before .before .before .before .before .before .before .before .before .before .before .args .key) (c .before .before .before .before .before .before .before .before .before .before .before .pre .0 .0) (c .before .before .before .before .before .before .before .before .before .before .before .pre .0 .3) (c .before .before .before .before .before .before .before .before .before .before .before .pre .0 .4) (c .before .before .before .before .before .before .before .before .before .before .before .pre .0 .5) (c .before .before .before .before .before .before .before .before .before .before .before .pre .0 .6) (c .before .before .before .before .before .before .before .before .before .before .before .pre .1 .0) (plain (seen (decodeSlot (part (set (c .before .before .before .before .before .before .before .before .open-entry .last .0) (c .before .before .before .before .before .before .before .before .before .before .before .args .at + (232 + c .before .before .before .before .before .before .before .before .before .before .before .args .i)) (c .before .before .before .before .before .low .result)) (c .before .before .before .before .before .before .before .before .before .before .before .args .from) 256)))) (c .before .before .before .before .before .before .before .before .open-entry .ensures) (ap (set (c .before .before .before .before .before .before .before .before .open-entry .last .0) (c .before .before .before .before .before .before .before .before .before .before .before .args .at + (232 + c .before .before .before .before .before .before .before .before .before .before .before .args .i))) (low-same (c .before .before .before .before .before .before .before .before .before .before .before .args .key) (c .before .before .before .before .before .low .ensures) (omega (arith, c .before .before .before .before .before .before .before .before .before .before .before .pre .1 .2)))) (c .before .before .before .store-item .ensures)
+
+returns : tie.Need-returns
+returns c =
+    let s = c .before .before .before .before .before .before .before .before .before .before .before in
+    let q = new-from (c .before .before .before .before .before .before .before .before .before .before .before .args .s .now) (c .before .before .before .before .before .before .before .before .before .before .before .args .at) (c .before .before .before .before .before .before .before .before .before .before .before .args .n) (c .before .before .before .before .before .before .before .before .before .before .before .args .i) (c .before .before .before .before .before .before .before .before .before .before .before .args .key) (c .before .before .before .before .before .before .before .before .before .before .before .pre .0 .0) (c .before .before .before .before .before .before .before .before .before .before .before .pre .0 .3) (c .before .before .before .before .before .before .before .before .before .before .before .pre .0 .4) (c .before .before .before .before .before .before .before .before .before .before .before .pre .0 .5) (c .before .before .before .before .before .before .before .before .before .before .before .pre .0 .6) (c .before .before .before .before .before .before .before .before .before .before .before .pre .1 .0) (s .args .from) (s .pre .0 .2) (s .pre .1 .5) (c .before .before .before .before .before .before .before .before .open-entry .ensures) (ap (set (c .before .before .before .before .before .before .before .before .open-entry .last .0) (c .before .before .before .before .before .before .before .before .before .before .before .args .at + (232 + c .before .before .before .before .before .before .before .before .before .before .before .args .i))) (low-same (c .before .before .before .before .before .before .before .before .before .before .before .args .key) (c .before .before .before .before .before .low .ensures) (omega (arith, c .before .before .before .before .before .before .before .before .before .before .before .pre .1 .2)))) in
+    let e₂ = set (c .before .before .before .before .before .before .before .before .open-entry .last .0) (s .args .at + (232 + s .args .i)) (c .before .before .before .before .before .low .result) in
+    new-law (c .before .before .before .before .before .before .before .before .before .before .before .args .s .now) (c .before .before .before .before .before .before .before .before .before .before .before .args .at) (c .before .before .before .before .before .before .before .before .before .before .before .args .n) (c .before .before .before .before .before .before .before .before .before .before .before .args .i) (c .before .before .before .before .before .before .before .before .before .before .before .args .key) (c .before .before .before .before .before .before .before .before .before .before .before .pre .0 .0) (c .before .before .before .before .before .before .before .before .before .before .before .pre .0 .3) (c .before .before .before .before .before .before .before .before .before .before .before .pre .0 .4) (c .before .before .before .before .before .before .before .before .before .before .before .pre .0 .5) (c .before .before .before .before .before .before .before .before .before .before .before .pre .0 .6) (c .before .before .before .before .before .before .before .before .before .before .before .pre .1 .0) (plain (seen (decodeSlot (part (s .args .s .now) (s .args .from) 256)))) (s .pre .1 .1) (c .before .before .before .before .before .before .before .before .open-entry .ensures) (ap (set (c .before .before .before .before .before .before .before .before .open-entry .last .0) (c .before .before .before .before .before .before .before .before .before .before .before .args .at + (232 + c .before .before .before .before .before .before .before .before .before .before .before .args .i))) (low-same (c .before .before .before .before .before .before .before .before .before .before .before .args .key) (c .before .before .before .before .before .low .ensures) (omega (arith, c .before .before .before .before .before .before .before .before .before .before .before .pre .1 .2))))
+    (c .before .before .before .store-item .ensures ∙ ap (λ (r : List ℕ). splice e₂ (s .args .at) (setItem (part e₂ (s .args .at) 256) (s .args .i) (plain (seen (decodeSlot r))))) (q .0))
+    (ap (set (c .before .before .before .store-item .last .0) (s .args .at + 1)) (low-same (s .args .n + 1) (c .low2 .ensures) (omega (arith, s .pre .0 .6))))
+
+pub insert-new-spec : {M : Type 1} → statement M
+insert-new-spec =
+    tie.close
+    (tie.spec
+    open-entry-requires
+    low-requires
+    add-s
+    add-s-2
+    slice-write-s
+    store-item-requires
+    add-low
+    low-requires-2
+    add-s-3
+    slice-write-s-2
+    same-length
+    returns)

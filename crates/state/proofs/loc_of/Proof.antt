@@ -1,0 +1,27 @@
+-- `state::loc_of` meets its contract. Assumes nothing.
+use mathlib.Core.Path.{_∙_}
+use native.Mathlib.Omega.{arith}
+use Rattle.lent.specs.Numbers.{beValue-one}
+use borrow.Author.Needs.{needs}
+use Rattle.state.proofs.loc_of.Statement.{statement}
+use Rattle.state.proofs.loc_of.Tie as tie
+
+get-u16-requires : tie.Need-get-u16-requires
+get-u16-requires c κs = search needs
+
+get-u8-requires : tie.Need-get-u8-requires
+get-u8-requires c κs = search needs
+
+get-u8-requires-2 : tie.Need-get-u8-requires-2
+get-u8-requires-2 c κs = omega (arith, c .before .before .before .pre)
+
+returns : tie.Need-returns
+returns c =
+    let s = c .before .before .before .before .args .state .now in
+    let p = c .before .before .before .before .pre in
+    let d = c .before .get-u8 .ensures .0 ∙ beValue-one s 47346 (omega arith) in
+    let e = c .get-u82 .ensures .0 ∙ beValue-one s 47347 (omega arith) in
+    λ i. record { pos = c .before .before .get-u16 .ensures .0 i; depth = d i; calls = e i }
+
+pub loc-of-spec : {M : Type 1} → statement M
+loc-of-spec = tie.close (tie.spec get-u16-requires get-u8-requires get-u8-requires-2 returns)

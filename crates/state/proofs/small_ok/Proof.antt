@@ -1,0 +1,27 @@
+-- `state::small_ok` meets its contract. Assumes nothing.
+use mathlib.Core.Path.{ap₂}
+use mathlib.Core.Bool.{Bool, _&&_}
+use Prim.Native.Nat.{ℕ}
+use lib.Dec.{leb}
+use Rattle.execute.specs.declared.Loc.{Loc}
+use borrow.Author.Needs.{needs}
+use Rattle.state.proofs.small_ok.Statement.{statement}
+use Rattle.state.proofs.small_ok.Tie as tie
+
+loc-of-requires : tie.Need-loc-of-requires
+loc-of-requires c κs = search needs
+
+get-u16-requires : tie.Need-get-u16-requires
+get-u16-requires c κs = search needs
+
+all-zero-requires : tie.Need-all-zero-requires
+all-zero-requires c κs = search needs
+
+returns : tie.Need-returns
+returns c =
+    let n = c .before .before .before .before .before .before .args .n in
+    ap₂ (λ (x : Loc) (y : Bool). leb (x .depth) 24 && (leb (x .calls) 24 && y)) (c .before .before .before .before .loc-of .ensures)
+    (ap₂ (λ (x : ℕ) (y : Bool). leb x n && y) (c .before .get-u16 .ensures .0) (c .all-zero .ensures))
+
+pub small-ok-spec : {M : Type 1} → statement M
+small-ok-spec = tie.close (tie.spec loc-of-requires get-u16-requires all-zero-requires returns)

@@ -1,0 +1,65 @@
+-- `state::stack_ok` meets its contract. Assumes nothing.
+use mathlib.Core.Path.{_≡_, refl}
+use Prim.Native.Nat.{_-_, _≤_}
+use native.Mathlib.Omega.{arith}
+use Rattle.vm.specs.StateBytes.{upto}
+use Rattle.state.specs.Fields.{stackTest, stackOk}
+use Rattle.state.specs.Checks.{scan-turn, scan-end}
+use Rattle.state.proofs.stack_ok.Statement.{statement}
+use Rattle.state.proofs.stack_ok.Tie as tie
+
+abbrev Inv-loop : tie.InvT-loop
+Inv-loop state depth ok₀ i₀ ok i = (i ≤ 24) × (ok ≡ upto i (stackTest state depth))
+
+abbrev μ-loop : tie.MeasureT-loop
+μ-loop state depth ok₀ i₀ ok i = 24 - i
+
+loop-holds : tie.Need-loop-holds Inv-loop μ-loop
+loop-holds c = (omega arith, refl)
+
+mul-place-ok : tie.Need-mul-place-ok Inv-loop μ-loop
+mul-place-ok c = omega arith
+
+add-place-ok : tie.Need-add-place-ok Inv-loop μ-loop
+add-place-ok c = omega arith
+
+shared-slice-read-place-ok : tie.Need-shared-slice-read-place-ok Inv-loop μ-loop
+shared-slice-read-place-ok c = omega arith
+
+place-ok-requires : tie.Need-place-ok-requires Inv-loop μ-loop
+place-ok-requires c κs = tt
+
+add-i : tie.Need-add-i Inv-loop μ-loop
+add-i c = omega arith
+
+loop-less : tie.Need-loop-less Inv-loop μ-loop
+loop-less c = omega arith
+
+loop-again : tie.Need-loop-again Inv-loop μ-loop
+loop-again c =
+    let l = c .before .before .before .loop in
+    let r = c .before .before .before .before .before .args in
+    (omega arith, scan-turn (stackTest (r .state .now) (r .depth)) (l .i) (l .ok) (c .place-ok .result) (l .inv .1) (c .place-ok .ensures) refl)
+
+returns : tie.Need-returns Inv-loop μ-loop
+unfolding stackOk
+returns c =
+    let l = c .before .loop in
+    let r = c .before .before .before .args in
+    scan-end (stackTest (r .state .now) (r .depth)) 24 (l .i) (l .ok) (l .inv .1) (l .inv .0) (c .loop-test .left)
+
+pub stack-ok-spec : {M : Type 1} → statement M
+stack-ok-spec =
+    tie.close
+    (tie.spec
+    Inv-loop
+    μ-loop
+    loop-holds
+    mul-place-ok
+    add-place-ok
+    shared-slice-read-place-ok
+    place-ok-requires
+    add-i
+    loop-less
+    loop-again
+    returns)

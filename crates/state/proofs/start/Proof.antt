@@ -1,0 +1,52 @@
+-- `state::start` meets its contract. Assumes nothing.
+use mathlib.Core.Path.{_∙_}
+use native.Mathlib.Omega.{arith}
+use Rattle.execute.specs.Programs.{programOf}
+use Rattle.state.specs.Starts.{start-written}
+use borrow.Author.Needs.{needs}
+use Rattle.state.proofs.start.Statement.{statement}
+use Rattle.state.proofs.start.Tie as tie
+
+clear-requires : tie.Need-clear-requires
+clear-requires c κs = search needs
+
+sub-copy : tie.Need-sub-copy
+sub-copy c = search needs
+
+part-copy-start : tie.Need-part-copy-start
+part-copy-start c = search needs
+
+part-copy-end : tie.Need-part-copy-end
+part-copy-end c = search needs
+
+copy-requires : tie.Need-copy-requires
+copy-requires c κs = search needs
+
+get-u16-requires : tie.Need-get-u16-requires
+get-u16-requires c κs = search needs
+
+put-u16-requires : tie.Need-put-u16-requires
+put-u16-requires c κs = omega (arith, c .before .before .before .before .copy .kept .0, c .before .before .before .before .before .before .before .before .before .clear .kept .0, c .before .before .before .before .before .before .before .before .before .before .before .before .before .pre .1)
+
+same-length : tie.Need-same-length
+same-length c = c .before .before .put-u16 .kept .0 ∙ c .before .before .before .before .before .before .before .copy .kept .0 ∙ c .before .before .before .before .before .before .before .before .before .before .before .before .clear .kept .0
+
+returns : tie.Need-returns
+returns c =
+    let a = c .before .before .before .before .before .before .before .before .before .before .before .before .before .before .before .before .args in
+    start-written (a .state .now) (a .program .now) (programOf (a .program .now)) (c .before .before .before .before .before .before .before .before .before .before .before .before .before .before .before .before .pre .1) (c .before .before .before .before .before .before .before .before .before .before .before .before .before .before .before .before .pre .2)
+    (c .before .before .before .before .before .before .before .before .before .before .before .before .clear .ensures) (c .before .before .before .before .before .before .before .copy .ensures) (c .before .before .before .get-u16 .ensures .0) (c .before .before .put-u16 .ensures)
+
+pub start-spec : {M : Type 1} → statement M
+start-spec =
+    tie.close
+    (tie.spec
+    clear-requires
+    sub-copy
+    part-copy-start
+    part-copy-end
+    copy-requires
+    get-u16-requires
+    put-u16-requires
+    same-length
+    returns)

@@ -1,0 +1,5 @@
+pub mod Checks
+pub mod Fields
+pub mod Marks
+pub mod Starts
+pub mod Whole

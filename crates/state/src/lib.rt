@@ -1,0 +1,200 @@
+// The state between calls: its check (10), its start, and what a run writes back.
+ghost use mathlib.Core.Path.{_≡_};
+ghost use mathlib.Core.List.{_++_};
+ghost use mathlib.Core.Option.{some};
+ghost use Prim.Native.Nat.{_≤_};
+ghost use lib.ListN.{length, drop};
+ghost use Rattle.tables.specs.ProgramBytes.{decodeProgram};
+ghost use Rattle.vm.specs.Machine as Machine;
+ghost use Rattle.vm.specs.StateBytes.{encodeState, decodeState, stateOk};
+ghost use Rattle.execute.specs.Programs.{programOf};
+ghost use Rattle.execute.specs.View.{Holds, view};
+ghost use Rattle.state.specs.Fields.{locAt, kindBit, markOf, placeOk, frameOk, slotsOk, stackOk, framesOk, fnsOk, smallOk};
+use execute::Loc;
+
+// Bytes of the state's fields behind the value slots: docs/FORMATS.md, "State".
+const NAMES: usize = 24576;
+
+const STACK: usize = 40960;
+
+const CALLS: usize = 47104;
+
+const FNS: usize = 47200;
+
+const MARK: usize = 47328;
+
+const COUNT: usize = 47336;
+
+const POS: usize = 47344;
+
+const DEPTH: usize = 47346;
+
+const CALL_DEPTH: usize = 47347;
+
+const REST: usize = 47348;
+
+// The steps counted since start.
+pub fn count_of(state: &[u8]) -> u64
+    requires { ⌜ 47360 ≤ length (now state) ⌝ }
+    ensures { λ r. ⌜ r ≡ decodeState (now (state .entry)) .count ⌝ }
+{
+    lent::get_u64(state, COUNT)
+}
+
+// Position and depths.
+pub fn loc_of(state: &[u8]) -> Loc
+    requires { ⌜ 47360 ≤ length (now state) ⌝ }
+    ensures { λ r. ⌜ r ≡ locAt (now (state .entry)) ⌝ }
+{
+    Loc {
+        pos: lent::get_u16(state, POS) as usize,
+        depth: lent::get_u8(state, DEPTH) as usize,
+        calls: lent::get_u8(state, CALL_DEPTH) as usize,
+    }
+}
+
+// 1 for a name that is held: its slot has a kind.
+fn held(kind: u8) -> u64
+    ensures { λ r. ⌜ (r ≡ kindBit kind) × (r ≤ 1) ⌝ }
+{
+    if kind == 0 {
+        return 0;
+    }
+    1
+}
+
+// The mark of the names that are held: bit x is text x.
+fn mark_of(state: &[u8]) -> u64
+    requires { ⌜ 47360 ≤ length (now state) ⌝ }
+    ensures { λ r. ⌜ r ≡ markOf (now (state .entry)) ⌝ }
+{
+    let mut m: u64 = 0;
+    let mut x: usize = 64;
+    while 0 < x {
+        x -= 1;
+        m = 2 * m + held(state[NAMES + x * 256]);
+    }
+    m
+}
+
+// ---- the check (10), beside a program of n instructions
+
+fn slots_ok(state: &[u8]) -> bool
+    requires { ⌜ 47360 ≤ length (now state) ⌝ }
+    ensures { λ r. ⌜ r ≡ slotsOk (now (state .entry)) ⌝ }
+{
+    let mut ok = true;
+    let mut i = 0;
+    while i < 184 {
+        ok = ok & sifv::slot_ok(state, i * 256);
+        i += 1;
+    }
+    ok
+}
+
+fn place_ok(inside: bool, kind: u8) -> bool
+    ensures { λ r. ⌜ r ≡ placeOk inside kind ⌝ }
+{
+    if inside {
+        return kind != 0;
+    }
+    kind == 0
+}
+
+fn stack_ok(state: &[u8], depth: usize) -> bool
+    requires { ⌜ 47360 ≤ length (now state) ⌝ }
+    ensures { λ r. ⌜ r ≡ stackOk (now (state .entry)) depth ⌝ }
+{
+    let mut ok = true;
+    let mut i = 0;
+    while i < 24 {
+        ok = ok & place_ok(i < depth, state[STACK + i * 256]);
+        i += 1;
+    }
+    ok
+}
+
+fn frame_ok(inside: bool, pos: u64, n: u64) -> bool
+    ensures { λ r. ⌜ r ≡ frameOk inside pos n ⌝ }
+{
+    if inside {
+        return pos < n;
+    }
+    pos == 0
+}
+
+fn frames_ok(state: &[u8], calls: usize, n: u64) -> bool
+    requires { ⌜ 47360 ≤ length (now state) ⌝ }
+    ensures { λ r. ⌜ r ≡ framesOk (now (state .entry)) calls n ⌝ }
+{
+    let mut ok = true;
+    let mut i = 0;
+    while i < 24 {
+        let at = CALLS + i * 4;
+        ok = ok
+            & (frame_ok(i < calls, lent::get_u16(state, at), n)
+                & (lent::get_u16(state, at + 2) == 0));
+        i += 1;
+    }
+    ok
+}
+
+fn fns_ok(state: &[u8], n: u64) -> bool
+    requires { ⌜ 47360 ≤ length (now state) ⌝ }
+    ensures { λ r. ⌜ r ≡ fnsOk (now (state .entry)) n ⌝ }
+{
+    let mut ok = true;
+    let mut x = 0;
+    while x < 64 {
+        ok = ok & (lent::get_u16(state, FNS + x * 2) <= n);
+        x += 1;
+    }
+    ok
+}
+
+// Depths, position, the bytes behind them.
+fn small_ok(state: &[u8], n: u64) -> bool
+    requires { ⌜ 47360 ≤ length (now state) ⌝ }
+    ensures { λ r. ⌜ r ≡ smallOk n (now (state .entry)) ⌝ }
+{
+    let loc = loc_of(state);
+    (loc.depth <= 24)
+        & ((loc.calls <= 24) & ((lent::get_u16(state, POS) <= n) & lent::all_zero(state, REST, 12)))
+}
+
+// Whether the bytes are an accepted state. Every field is looked at.
+pub fn state_ok(state: &[u8], n: u64) -> bool
+    requires { ⌜ (47360 ≤ length (now state)) × (n ≤ 1024) ⌝ }
+    ensures { λ r. ⌜ r ≡ stateOk n (now (state .entry)) ⌝ }
+{
+    let loc = loc_of(state);
+    let stacks = stack_ok(state, loc.depth) & frames_ok(state, loc.calls, n);
+    let tables = fns_ok(state, n) & (mark_of(state) == lent::get_u64(state, MARK));
+    small_ok(state, n) & (stacks & (tables & slots_ok(state)))
+}
+
+// ---- after a run
+
+// Mark, count, position and depths, which a run keeps elsewhere.
+pub fn write_back(state: &mut [u8], loc: Loc, count: u64)
+    requires { ⌜ Holds (now state) (view (now state) loc) × (loc .depth ≤ 24) × (loc .calls ≤ 24) ⌝ }
+    ensures { λ _. ⌜ now (state .exit) ≡ encodeState (record { machine = view (now (state .entry)) loc; count = count }) ++ drop 47360 (now (state .entry)) ⌝ }
+{
+    lent::put_u64(state, MARK, mark_of(state));
+    lent::put_u64(state, COUNT, count);
+    lent::put_u16(state, POS, loc.pos as u64);
+    lent::put_u8(state, DEPTH, loc.depth as u64);
+    lent::put_u8(state, CALL_DEPTH, loc.calls as u64);
+}
+
+// ---- at the start
+
+// The state of an accepted program that has not begun: its function table, and its first position.
+pub fn start(program: &[u8], state: &mut [u8])
+    requires { ⌜ (40960 ≤ length (now program)) × (47360 ≤ length (now state)) × (decodeProgram (now program) ≡ some (programOf (now program))) ⌝ }
+    ensures { λ _. ⌜ now (state .exit) ≡ encodeState (Machine.started (programOf (now (program .entry)))) ++ drop 47360 (now (state .entry)) ⌝ }
+{
+    lent::clear(state, 47360);
+    lent::copy(state, FNS, &program[34816..34944]);
+    lent::put_u16(state, POS, lent::get_u16(program, 34946));
+}

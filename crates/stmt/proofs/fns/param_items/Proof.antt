@@ -1,0 +1,64 @@
+use native.Mathlib.Omega.{arith}
+use mathlib.Core.Path.{refl, sym, _∙_}
+use Prim.Native.Nat.{_+_, _*_, _-_, _≤_}
+use mathlib.Core.Path.{_≡_}
+use lib.ListN.{length, drop}
+use Rattle.lent.specs.Bytes.{splice}
+use borrow.Author.Needs.{needs}
+use Rattle.stmt.specs.Fns.{items, items-start, item-length, items-turn, items-end}
+use Rattle.sifv.specs.Value.{Str}
+use Rattle.stmt.proofs.fns.param_items.Statement.{statement}
+use Rattle.stmt.proofs.fns.param_items.Tie as tie
+
+abbrev Inv-loop : tie.InvT-loop
+Inv-loop names k out₀ i₀ out i = (i ≤ length names) × (length out ≡ length out₀) × (splice out (16384 + 16 * (k + i)) (items (drop i names)) ≡ splice out₀ (16384 + 16 * k) (items names))
+
+abbrev μ-loop : tie.MeasureT-loop
+μ-loop names k out₀ i₀ out i = length names - i
+
+loop-holds : tie.Need-loop-holds Inv-loop μ-loop
+loop-holds c = (omega arith, refl, items-start (c .before .before .args .out .now) (c .before .before .args .k) (c .before .before .args .names .now))
+
+add-put-item : tie.Need-add-put-item Inv-loop μ-loop
+add-put-item c = omega arith
+
+shared-slice-read-wide : tie.Need-shared-slice-read-wide Inv-loop μ-loop
+shared-slice-read-wide c = omega arith
+
+wide-requires : tie.Need-wide-requires Inv-loop μ-loop
+wide-requires c κs = search needs
+
+put-item-requires : tie.Need-put-item-requires Inv-loop μ-loop
+put-item-requires c κs = omega arith
+
+add-i : tie.Need-add-i Inv-loop μ-loop
+add-i c = omega arith
+
+loop-less : tie.Need-loop-less Inv-loop μ-loop
+loop-less c = omega arith
+
+loop-again : tie.Need-loop-again Inv-loop μ-loop
+loop-again c = let l = c .before .before .before .before .before .before .before .loop in let a = c .before .before .before .before .before .before .before .before .before .before .args in (omega arith, item-length (l .out) (a .k + l .i) (Str (c .before .before .before .wide .result)) (omega arith) (c .before .before .put-item .ensures .0) ∙ l .inv .1, items-turn (l .out) (a .k) (l .i) (a .names .now) (omega arith) (omega arith) (c .before .before .before .wide .ensures .0) (c .before .before .put-item .ensures .0) ∙ l .inv .2)
+
+same-length : tie.Need-same-length Inv-loop μ-loop
+same-length c = c .before .loop .inv .1
+
+returns : tie.Need-returns Inv-loop μ-loop
+returns c = let l = c .before .loop in sym (items-end (l .out) (c .before .before .before .before .args .k) (l .i) (c .before .before .before .before .args .names .now) (c .loop-test .left)) ∙ l .inv .2
+
+pub param-items-spec : {M : Type 1} → statement M
+param-items-spec =
+    tie.close
+    (tie.spec
+    Inv-loop
+    μ-loop
+    loop-holds
+    add-put-item
+    shared-slice-read-wide
+    wide-requires
+    put-item-requires
+    add-i
+    loop-less
+    loop-again
+    same-length
+    returns)

@@ -1,0 +1,101 @@
+// What a For goes over, and what stands before and behind its Block (`forstmt` of stmt.rs).
+ghost use mathlib.Core.Path.{_≡_};
+ghost use Prim.Native.Nat.{_+_, _<_, _^_};
+ghost use Rattle.emit.specs.Run.{Ready};
+ghost use Rattle.emit.specs.Made.{ReadsAt, Goes};
+ghost use Rattle.stmt.specs.Parts.{Emitted, forHead, forTail, nameOf, sources};
+
+// The name, which for a call is text 0, `fortmp`.
+pub fn source_name(kind: u8, x: u8) -> u8
+    ensures { λ r. ⌜ r ≡ nameOf kind x ⌝ }
+{
+    if kind == 21 { x } else { 0 }
+}
+
+// A Name gives nothing; a call is stored in `fortmp`.
+pub fn source(
+    contents: &[u8],
+    bodies: &[u8],
+    keep: bool,
+    p: emit::Done,
+    out: &mut [u8],
+) -> emit::Done
+    requires { ⌜ ReadsAt sources (now contents) (now bodies) p (now out) ⌝ }
+    ensures { λ r. ⌜ Goes sources (now (contents .entry)) (now (bodies .entry)) keep p (now (out .entry)) r (now (out .exit)) ⌝ }
+{
+    let at = p.cont;
+    if contents[at] == 21 {
+        return emit::pass(p, 2, 1);
+    }
+    let a = expr::expr_at(contents, bodies, keep, p, out);
+    let reg = emit::prevreg(a.low);
+    let f = emit::fields_of(p.lbl, 11, 0, reg, 0, 0, 0);
+    emit::push_at(keep, a, f, out)
+}
+
+// Before the Block, the index in register r.
+pub fn for_head(
+    i: u8,
+    v: u8,
+    name: u8,
+    r: u8,
+    keep: bool,
+    p: emit::Done,
+    out: &mut [u8],
+) -> emit::Done
+    requires { ⌜ Ready (p .low) (now out) × (p .lbl + 1 < 2 ^ 64) ⌝ }
+    ensures { λ d. ⌜ Emitted (forHead i v name r (p .lbl) (p .low .reg)) (p .lbl + 1) keep p (now (out .entry)) d (now (out .exit)) ⌝ }
+{
+    let l = p.lbl;
+    let a = emit::push_at(keep, p, emit::fields_of(l, 9, 1, i, 0, 0, 0), out);
+    let b = emit::load_at(
+        keep,
+        a,
+        emit::fields_of(l, 6, 0, name, a.low.reg, 0, 0),
+        out,
+    );
+    let c = emit::push_at(keep, b, emit::fields_of(l + 1, 4, 0, r, i, 0, 0), out);
+    let d = emit::load_at(
+        keep,
+        c,
+        emit::fields_of(l + 1, 7, 0, name, r, c.low.reg, 0),
+        out,
+    );
+    let e = emit::push_at(
+        keep,
+        d,
+        emit::fields_of(l + 1, 11, 0, c.low.reg, v, 0, 0),
+        out,
+    );
+    emit::newlbl(e)
+}
+
+// Behind the Block: the next index, and back to label lbl while it is below the size.
+pub fn for_tail(
+    i: u8,
+    r: u8,
+    size: u8,
+    lbl: u64,
+    keep: bool,
+    p: emit::Done,
+    out: &mut [u8],
+) -> emit::Done
+    requires { ⌜ Ready (p .low) (now out) ⌝ }
+    ensures { λ d. ⌜ Emitted (forTail i r size lbl (p .lbl) (p .low .reg)) (p .lbl) keep p (now (out .entry)) d (now (out .exit)) ⌝ }
+{
+    let m = p.lbl;
+    let a = emit::push_at(keep, p, emit::fields_of(m, 14, 0, r, 0, 0, 0), out);
+    let b = emit::push_at(keep, a, emit::fields_of(m, 11, 0, r, i, 0, 0), out);
+    let c = emit::load_at(
+        keep,
+        b,
+        emit::fields_of(m, 1, 9, r, size, b.low.reg, 0),
+        out,
+    );
+    emit::push_at(
+        keep,
+        c,
+        emit::fields_of(m, 12, 1, b.low.reg, 0, 0, lbl),
+        out,
+    )
+}

@@ -1,0 +1,69 @@
+// Jumps whose targets are known later, and Nops (`update_op_at` of compiler.rs).
+ghost use mathlib.Core.Path.{_≡_};
+ghost use mathlib.Core.List.{[], _∷_};
+ghost use Prim.Native.Nat.{_+_, _≤_, _<_, _^_};
+ghost use lib.ListN.{length};
+ghost use Rattle.opc.specs.Op.{Jmpf, JmpCnd, Jmpa, Nop};
+ghost use Rattle.compiler.specs.Lower.{prev, push};
+ghost use Rattle.emit.specs.Run.{Ready};
+ghost use Rattle.stmt.specs.Parts.{Emitted, retarget, endLabel};
+
+// The target of the jump that was pushed between a and b.
+pub fn update_op_at(a: emit::Low, b: emit::Low, lblidx: u64, out: &mut [u8])
+    requires { ⌜ (b .recs ≤ 1024) × (40960 ≤ length (now out)) ⌝ }
+    ensures { λ _. ⌜ now (out .exit) ≡ retarget a b lblidx (now (out .entry)) ⌝ }
+{
+    if a.recs < b.recs {
+        lent::put_u64(out, 16 * a.recs + 8, lblidx);
+        return;
+    }
+}
+
+// Behind a condition: to the next label where it is false, which is not known yet.
+pub fn jump_false(keep: bool, p: emit::Done, out: &mut [u8]) -> emit::Done
+    requires { ⌜ Ready (p .low) (now out) × (p .lbl + 1 < 2 ^ 64) ⌝ }
+    ensures { λ r. ⌜ Emitted (λ w. push w (p .lbl) (JmpCnd Jmpf (prev (p .low .reg)) 0) ∷ []) (p .lbl + 1) keep p (now (out .entry)) r (now (out .exit)) ⌝ }
+{
+    let reg = emit::prevreg(p.low);
+    let f = emit::fields_of(p.lbl, 12, 2, reg, 0, 0, 0);
+    let j = emit::push_at(keep, p, f, out);
+    emit::newlbl(j)
+}
+
+// Behind a Block of an If: to the end, which is not known yet.
+pub fn jump_end(keep: bool, p: emit::Done, out: &mut [u8]) -> emit::Done
+    requires { ⌜ Ready (p .low) (now out) × (p .lbl + 1 < 2 ^ 64) ⌝ }
+    ensures { λ r. ⌜ Emitted (λ w. push w (p .lbl) (Jmpa 0) ∷ []) (p .lbl + 1) keep p (now (out .entry)) r (now (out .exit)) ⌝ }
+{
+    let f = emit::fields_of(p.lbl, 13, 0, 0, 0, 0, 0);
+    let j = emit::push_at(keep, p, f, out);
+    emit::newlbl(j)
+}
+
+pub fn nop(keep: bool, p: emit::Done, out: &mut [u8]) -> emit::Done
+    requires { ⌜ Ready (p .low) (now out) ⌝ }
+    ensures { λ r. ⌜ Emitted (λ w. push w (p .lbl) Nop ∷ []) (p .lbl) keep p (now (out .entry)) r (now (out .exit)) ⌝ }
+{
+    let f = emit::fields_of(p.lbl, 23, 0, 0, 0, 0, 0);
+    emit::push_at(keep, p, f, out)
+}
+
+// An else opens a label for the end.
+fn ended(rest: u8, p: emit::Done) -> emit::Done
+    requires { ⌜ endLabel rest (p .lbl) < 2 ^ 64 ⌝ }
+    ensures { λ r. ⌜ r ≡ record { cont = p .cont; body = p .body; lbl = endLabel rest (p .lbl); low = p .low } ⌝ }
+{
+    if rest == 0 {
+        return p;
+    }
+    emit::newlbl(p)
+}
+
+// The end of an If, behind its else statements.
+pub fn if_end(rest: u8, keep: bool, p: emit::Done, out: &mut [u8]) -> emit::Done
+    requires { ⌜ Ready (p .low) (now out) × (endLabel rest (p .lbl) < 2 ^ 64) ⌝ }
+    ensures { λ r. ⌜ Emitted (λ w. push w (endLabel rest (p .lbl)) Nop ∷ []) (endLabel rest (p .lbl)) keep p (now (out .entry)) r (now (out .exit)) ⌝ }
+{
+    let e = ended(rest, p);
+    nop(keep, e, out)
+}

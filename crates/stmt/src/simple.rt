@@ -1,0 +1,71 @@
+// Statements with no statement inside: `ret` and `vardecl` of compiler.rs, and ExprStmt.
+ghost use mathlib.Core.Path.{_≡_};
+ghost use mathlib.Core.List.{[], _∷_};
+ghost use lib.ListN.{getD};
+ghost use Rattle.opc.specs.Op.{FnRet};
+ghost use Rattle.compiler.specs.Lower.{push};
+ghost use Rattle.emit.specs.Run.{Ready};
+ghost use Rattle.emit.specs.Made.{ReadsAt, Goes};
+ghost use Rattle.stmt.specs.Parts.{Emitted, statements};
+
+fn fn_ret(keep: bool, p: emit::Done, out: &mut [u8]) -> emit::Done
+    requires { ⌜ Ready (p .low) (now out) ⌝ }
+    ensures { λ r. ⌜ Emitted (λ w. push w (p .lbl) FnRet ∷ []) (p .lbl) keep p (now (out .entry)) r (now (out .exit)) ⌝ }
+{
+    let f = emit::fields_of(p.lbl, 18, 0, 0, 0, 0, 0);
+    emit::push_at(keep, p, f, out)
+}
+
+pub fn ret(contents: &[u8], bodies: &[u8], keep: bool, p: emit::Done, out: &mut [u8]) -> emit::Done
+    requires { ⌜ ReadsAt (statements (p .lbl)) (now contents) (now bodies) p (now out) ⌝ }
+    requires { ⌜ getD (now contents) (p .cont) 0 ≡ 6 ⌝ }
+    ensures { λ r. ⌜ Goes (statements (p .lbl)) (now (contents .entry)) (now (bodies .entry)) keep p (now (out .entry)) r (now (out .exit)) ⌝ }
+{
+    let at = p.cont;
+    let a = emit::pass(p, 2, 0);
+    if contents[at + 1] == 0 {
+        return fn_ret(keep, a, out);
+    }
+    let e = expr::expr_at(contents, bodies, keep, a, out);
+    let reg = emit::prevreg(e.low);
+    let f = emit::fields_of(p.lbl, 19, 0, reg, 0, 0, 0);
+    let q = emit::push_at(keep, e, f, out);
+    fn_ret(keep, q, out)
+}
+
+pub fn expr_stmt(
+    contents: &[u8],
+    bodies: &[u8],
+    keep: bool,
+    p: emit::Done,
+    out: &mut [u8],
+) -> emit::Done
+    requires { ⌜ ReadsAt (statements (p .lbl)) (now contents) (now bodies) p (now out) ⌝ }
+    requires { ⌜ getD (now contents) (p .cont) 0 ≡ 7 ⌝ }
+    ensures { λ r. ⌜ Goes (statements (p .lbl)) (now (contents .entry)) (now (bodies .entry)) keep p (now (out .entry)) r (now (out .exit)) ⌝ }
+{
+    let a = emit::pass(p, 2, 0);
+    expr::expr_at(contents, bodies, keep, a, out)
+}
+
+pub fn vardecl(
+    contents: &[u8],
+    bodies: &[u8],
+    keep: bool,
+    p: emit::Done,
+    out: &mut [u8],
+) -> emit::Done
+    requires { ⌜ ReadsAt (statements (p .lbl)) (now contents) (now bodies) p (now out) ⌝ }
+    requires { ⌜ getD (now contents) (p .cont) 0 ≡ 8 ⌝ }
+    ensures { λ r. ⌜ Goes (statements (p .lbl)) (now (contents .entry)) (now (bodies .entry)) keep p (now (out .entry)) r (now (out .exit)) ⌝ }
+{
+    let at = p.cont;
+    let b = p.body;
+    let name = bodies[b];
+    let a = emit::pass(p, 2, 1);
+    if contents[at + 1] == 0 {
+        let f = emit::fields_of(p.lbl, 9, 4, name, 0, 0, 0);
+        return emit::push_at(keep, a, f, out);
+    }
+    expr::assign_at(name, contents, bodies, keep, a, out)
+}

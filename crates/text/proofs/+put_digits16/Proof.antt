@@ -1,0 +1,139 @@
+use borrow.Author.Needs.{needs}
+use Prim.Native.Nat.{_-_}
+use Rattle.text.specs.Digits.{hex-none, hex-then, power-less, power-some}
+use Rattle.text.specs.PutLaws.{put-length, put-within}
+use mathlib.Core.Path.{_∙_}
+use native.Mathlib.Omega.{arith}
+use Prim.Native.Nat.{ℕ, _<_}
+use borrow.Fn.Kinds.{In}
+use borrow.Fn.PlainCycle.{Measures, is, falls, and}
+use Rattle.text.proofs.put_digits16.Reads as put-digits16
+use Rattle.text.proofs.put_digits16.Kinds as put-digits16-kinds
+use Rattle.text.proofs.+put_digits16.Lts-put_digits16 as put-digits16-lts
+use Rattle.text.proofs.hex_digit.Reads as hex-digit-reads
+use Rattle.text.proofs.put.Reads as put-reads
+use Rattle.text.proofs.+put_digits16.{statement}
+use Rattle.text.proofs.+put_digits16.Tie.{close}
+
+abbrev μ-put-digits16 : Measures 1 put-digits16-kinds.ps ℕ
+μ-put-digits16 κs a = a .1 .1 .0
+
+abbrev put-digits16-at : ℕ → In 1 put-digits16-kinds.ps
+put-digits16-at t =
+    and 1 put-digits16-kinds.ps (is 1 put-digits16-kinds.ps μ-put-digits16 t) put-digits16.Pre
+
+abbrev put-digits16-below : ℕ → In 1 put-digits16-kinds.ps
+put-digits16-below t =
+    and
+    1
+    put-digits16-kinds.ps
+    (falls 1 put-digits16-kinds.ps _<_ μ-put-digits16 t)
+    put-digits16.Pre
+
+-- src/lib.rt:73:9
+put-digits16-returns : (t : ℕ) → put-digits16-lts.Need-returns (
+  hex-digit-reads.Asked,
+  hex-digit-reads.Learnt,
+  put-reads.Asked,
+  put-reads.Learnt,
+  put-digits16-below t,
+  put-digits16.Post,
+) (put-digits16-at t) put-digits16.Post
+put-digits16-returns t c = let s = c .before .before in hex-none (s .pre .1 .0) (s .args .k) (s .args .n) (c .if1 .taken)
+
+-- src/lib.rt:75:36
+put-digits16-div-hex-digit : (t : ℕ) → put-digits16-lts.Need-div-hex-digit (
+  hex-digit-reads.Asked,
+  hex-digit-reads.Learnt,
+  put-reads.Asked,
+  put-reads.Learnt,
+  put-digits16-below t,
+  put-digits16.Post,
+) (put-digits16-at t) put-digits16.Post
+put-digits16-div-hex-digit t c = let s = c .before .before .before in power-some (s .args .k - 1) (s .args .p) (s .pre .1 .2 (omega (arith, c .before .if1 .left)))
+
+-- src/lib.rt:75:26
+put-digits16-hex-digit-requires : (t : ℕ) → put-digits16-lts.Need-hex-digit-requires (
+  hex-digit-reads.Asked,
+  hex-digit-reads.Learnt,
+  put-reads.Asked,
+  put-reads.Learnt,
+  put-digits16-below t,
+  put-digits16.Post,
+) (put-digits16-at t) put-digits16.Post
+put-digits16-hex-digit-requires t c κs = omega arith
+
+-- src/lib.rt:75:9
+put-digits16-put-requires : (t : ℕ) → put-digits16-lts.Need-put-requires (
+  hex-digit-reads.Asked,
+  hex-digit-reads.Learnt,
+  put-reads.Asked,
+  put-reads.Learnt,
+  put-digits16-below t,
+  put-digits16.Post,
+) (put-digits16-at t) put-digits16.Post
+put-digits16-put-requires t c κs = omega (arith, c .before .before .before .before .pre .1 .0)
+
+-- src/lib.rt:76:26
+put-digits16-sub-put-digits16 : (t : ℕ) → put-digits16-lts.Need-sub-put-digits16 (
+  hex-digit-reads.Asked,
+  hex-digit-reads.Learnt,
+  put-reads.Asked,
+  put-reads.Learnt,
+  put-digits16-below t,
+  put-digits16.Post,
+) (put-digits16-at t) put-digits16.Post
+put-digits16-sub-put-digits16 t c = omega (arith, c .before .before .before .before .before .before .if1 .left)
+
+-- src/lib.rt:76:5
+put-digits16-put-digits16-requires : (t : ℕ) → put-digits16-lts.Need-put-digits16-requires (
+  hex-digit-reads.Asked,
+  hex-digit-reads.Learnt,
+  put-reads.Asked,
+  put-reads.Learnt,
+  put-digits16-below t,
+  put-digits16.Post,
+) (put-digits16-at t) put-digits16.Post
+put-digits16-put-digits16-requires t c κs = let s = c .before .before .before .before .before .before .before .before in (omega (arith, s .pre .0, c .before .before .before .before .before .before .if1 .left), (omega (arith, put-within (s .pre .1 .0) (c .before .before .before .put .ensures)), omega (arith, s .pre .1 .1), λ z. power-less (s .args .k) (s .args .p) (omega arith) (s .pre .1 .2 (omega (arith, c .before .before .before .before .before .before .if1 .left)))))
+
+-- src/lib.rt:68:1
+put-digits16-same-length : (t : ℕ) → put-digits16-lts.Need-same-length (
+  hex-digit-reads.Asked,
+  hex-digit-reads.Learnt,
+  put-reads.Asked,
+  put-reads.Learnt,
+  put-digits16-below t,
+  put-digits16.Post,
+) (put-digits16-at t) put-digits16.Post
+put-digits16-same-length t c = let s = c .before .before .before .before .before .before .before .before .before .before .before in put-length (put-within (s .pre .1 .0) (c .before .before .before .before .before .before .put .ensures)) (c .before .before .put-digits16 .ensures) ∙ put-length (s .pre .1 .0) (c .before .before .before .before .before .before .put .ensures)
+
+-- src/lib.rt:68:1
+put-digits16-returns-2 : (t : ℕ) → put-digits16-lts.Need-returns-2 (
+  hex-digit-reads.Asked,
+  hex-digit-reads.Learnt,
+  put-reads.Asked,
+  put-reads.Learnt,
+  put-digits16-below t,
+  put-digits16.Post,
+) (put-digits16-at t) put-digits16.Post
+put-digits16-returns-2 t c = let s = c .before .before .before .before .before .before .before .before .before .before .before in hex-then (s .pre .1 .0) (s .args .k) (s .args .n) (s .args .p) (c .before .before .before .before .before .before .before .before .before .if1 .left) (s .pre .1 .2 (omega (arith, c .before .before .before .before .before .before .before .before .before .if1 .left))) (c .before .before .before .before .before .before .before .hex-digit .ensures) (c .before .before .before .before .before .before .put .ensures) (c .before .before .put-digits16 .ensures)
+
+pub +put-digits16-spec : {M : Type 1} → statement M
++put-digits16-spec = close μ-put-digits16 λ t. put-digits16-lts.spec (
+  hex-digit-reads.Asked,
+  hex-digit-reads.Learnt,
+  put-reads.Asked,
+  put-reads.Learnt,
+  put-digits16-below t,
+  put-digits16.Post,
+)
+    (put-digits16-at t)
+    put-digits16.Post
+    (put-digits16-returns t)
+    (put-digits16-div-hex-digit t)
+    (put-digits16-hex-digit-requires t)
+    (put-digits16-put-requires t)
+    (put-digits16-sub-put-digits16 t)
+    (put-digits16-put-digits16-requires t)
+    (put-digits16-same-length t)
+    (put-digits16-returns-2 t)

@@ -1,0 +1,134 @@
+/* The page-script engine: four calls on lent bytes. C99 and C++.
+ *
+ * A tree file is lowered into a program buffer; a state buffer is started for that program; runs take steps of it; the names that
+ * a run leaves behind are the page. docs/FORMATS.md has the formats. All numbers in buffers are big-endian.
+ *
+ *   uint64_t no = sif_lower(file, file_len, program, SIF_PROGRAM_SIZE);
+ *   if (no == 0) no = sif_start(program, SIF_PROGRAM_SIZE, state, SIF_STATE_SIZE);
+ *   if (no == 0) no = sif_run(program, SIF_PROGRAM_SIZE, state, SIF_STATE_SIZE, 1000, report, SIF_REPORT_SIZE);
+ *   if (no == 0) no = sif_read_name(state, SIF_STATE_SIZE, text, value, SIF_VALUE_SIZE);
+ *
+ * What holds of every call:
+ * - It answers 0, or the number of a refusal (below). After 8, 9 and 10 nothing is written.
+ * - Lengths are the lengths of the lent buffers. A buffer longer than its size is left as it is beyond that size; a shorter one is
+ *   refused with 9. Pointers are not null.
+ * - Buffers may lie at any address: no alignment is asked for.
+ * - Two buffers lent to one call must not overlap.
+ * - Nothing else is read or written: no heap, no global data, no file. Every call ends: lower by the size of its file, run by the
+ *   steps given.
+ * - Threads: calls on different buffers may run at the same time. A program that nobody writes may be lent to several calls at
+ *   once, and a state that nobody writes to several sif_read_name; a state that is started or run is lent to that one call alone.
+ * - Stack, measured on x86-64 over files at the limits (bench/run): sif_lower 146 KB at most, and it grows with the nodes of the
+ *   file; sif_start, sif_run and sif_read_name under 3 KB. */
+#ifndef SIF_H
+#define SIF_H
+
+#include <stddef.h>
+#include <stdint.h>
+
+#ifdef __cplusplus
+extern "C" {
+#endif
+
+/* Sizes of the lent buffers, in bytes. */
+#define SIF_PROGRAM_SIZE 40960
+#define SIF_STATE_SIZE 65536
+#define SIF_REPORT_SIZE 48
+#define SIF_VALUE_SIZE 256
+
+/* A tree file has at most so many texts, and no accepted file is longer. */
+#define SIF_TEXTS 64
+#define SIF_FILE_LONGEST 12867
+
+/* Refusals: the number that a call answers. */
+enum {
+    SIF_OK = 0,
+    SIF_FILE_CUT = 1,           /* the file is under 3 bytes, its contents are cut off, or its bodies do not end with it */
+    SIF_FILE_COUNTS = 2,        /* node count outside 1 to 1,024 or text count outside 1 to 64 */
+    SIF_FILE_TEXTS = 3,         /* a text over 40 bytes, with a byte outside 32 to 126, out of order, or not fortmp where it must be */
+    SIF_FILE_STRUCTURE = 4,     /* unknown kind, a node where it may not stand, wrong child counts, too deep, too many items, a key twice */
+    SIF_FILE_NUMBERS = 5,       /* a text number not below the text count, or an unknown operator */
+    SIF_NO_REGISTER = 6,        /* an operand without a register before it */
+    SIF_SCRIPT_TOO_LARGE = 7,   /* more than 96 registers or 1,024 instructions */
+    SIF_PROGRAM_REFUSED = 8,    /* the program buffer is not a program; sif_read_name: a text number over 63 */
+    SIF_BUFFER_TOO_SHORT = 9,   /* a lent buffer is shorter than its size */
+    SIF_STATE_REFUSED = 10      /* the state buffer is not a state, or its count with the steps given would pass 2^64 - 1 */
+};
+
+/* How a run ended: byte 0 of its report. */
+enum {
+    SIF_DONE = 0,               /* the program's end is reached */
+    SIF_STOPPED = 1,            /* at an error: its number, line and details are in the report */
+    SIF_SPENT = 2               /* all given steps were taken, and the program goes on */
+};
+
+/* Stops: byte 1 of a report. A stopped step changes nothing, is not counted, and comes again if run again. */
+enum {
+    SIF_INVALID_NAME = 20,          /* a name that is not set; detail: text */
+    SIF_INVALID_INCR = 21,          /* nothing to increment */
+    SIF_INVALID_INCR_TY = 22,       /* not a number to increment */
+    SIF_INVALID_DECR = 23,          /* nothing to decrement */
+    SIF_INVALID_DECR_TY = 24,       /* not a number to decrement */
+    SIF_INVALID_JUMP = 25,          /* a label that is not there */
+    SIF_REG_NO_CONTENTS = 26,       /* an empty register; detail: register */
+    SIF_TY_MISMATCH = 27,           /* an operator on a value of the wrong kind */
+    SIF_NOT_AN_ARRAY = 28,          /* detail: text */
+    SIF_INVALID_FN_SYM = 29,        /* a function that is not declared; detail: text */
+    SIF_EMPTY_CALL_STACK = 30,      /* a return outside a call */
+    SIF_INDEX_OUT_OF_BOUNDS = 31,   /* details: text, index, length */
+    SIF_EMPTY_REGISTER = 32,        /* an empty register pushed or put into a table */
+    SIF_KEY_ABSENT = 33,            /* a key that the table does not have */
+    SIF_NESTED = 34,                /* an array or table put inside another */
+    SIF_STACK_FULL = 35,            /* over 24 values or 24 calls */
+    SIF_TABLE_FULL = 36             /* a 17th key */
+};
+
+/* A report, 48 bytes. */
+enum {
+    SIF_REPORT_ANSWER = 0,      /* 1 byte: SIF_DONE, SIF_STOPPED, SIF_SPENT */
+    SIF_REPORT_STOP = 1,        /* 1 byte: the stop's number, else 0 */
+    SIF_REPORT_LINE = 8,        /* 8 bytes, signed: the stop's line, else 0 */
+    SIF_REPORT_DETAILS = 16,    /* 3 of 8 bytes: the stop's details, else 0 */
+    SIF_REPORT_STEPS = 40       /* 8 bytes: steps taken in this run */
+};
+
+/* A value, 256 bytes; bytes that a value does not use are zero. */
+enum {
+    SIF_VALUE_KIND = 0,         /* 1 byte, below */
+    SIF_VALUE_LENGTH = 1,       /* 1 byte: items of an array, keys of a table */
+    SIF_VALUE_NUMBER = 8,       /* 8 bytes: a single value's number */
+    SIF_VALUE_ITEM_KINDS = 16,  /* 24 of 1 byte */
+    SIF_VALUE_ITEMS = 40,       /* 24 of 8 bytes: the items' numbers */
+    SIF_VALUE_KEYS = 232        /* 16 of 1 byte: a table's keys, text numbers, ascending */
+};
+
+/* Kinds of value. Items are of kinds 1 to 4. */
+enum {
+    SIF_UNSET = 0,              /* the name holds nothing */
+    SIF_NUM = 1,                /* number: binary64; every NaN is 7ff8000000000000 */
+    SIF_STR = 2,                /* number: a text number */
+    SIF_BL = 3,                 /* number: 0 or 1 */
+    SIF_NULL = 4,               /* number: 0 */
+    SIF_ARR = 5,
+    SIF_TAB = 6
+};
+
+/* Lowers a tree file into a program. Answers 0, or 9; 1 to 5; 6 or 7. After 1 to 7 the program buffer's first 40,960 bytes are
+ * zero. */
+uint64_t sif_lower(const uint8_t *file, size_t file_len, uint8_t *program, size_t program_len);
+
+/* Makes a fresh state for a program: no name set, count 0, at the code start. Answers 0, or 9, 8. */
+uint64_t sif_start(const uint8_t *program, size_t program_len, uint8_t *state, size_t state_len);
+
+/* Takes up to so many steps and writes a report. Answers 0, or 9, 8, 10. */
+uint64_t sif_run(const uint8_t *program, size_t program_len, uint8_t *state, size_t state_len, uint64_t steps, uint8_t *report,
+                 size_t report_len);
+
+/* Reads the value of the name that is such a text; an unset name is 256 zeros. Answers 0, or 9, 8 (text over 63), 10. */
+uint64_t sif_read_name(const uint8_t *state, size_t state_len, uint64_t text, uint8_t *out, size_t out_len);
+
+#ifdef __cplusplus
+}
+#endif
+
+#endif

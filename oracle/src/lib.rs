@@ -1,0 +1,39 @@
+//! The original engine as judge: see README.md beside this folder. A library for the programs of `compare/` and `bench/`, and
+//! the program `oracle`.
+
+pub mod bound;
+pub mod build_tree;
+pub mod bytes;
+pub mod calls;
+pub mod cases;
+pub mod compare;
+pub mod driver;
+pub mod examples;
+pub mod gen;
+pub mod gen_buffers;
+pub mod gen_damaged;
+pub mod gen_large;
+pub mod gen_limits;
+pub mod gen_other;
+pub mod gen_programs;
+pub mod gen_script;
+pub mod gen_small;
+pub mod gen_values;
+pub mod listing;
+pub mod lower;
+pub mod mutants;
+pub mod names;
+pub mod original;
+pub mod page;
+pub mod program;
+pub mod program_bytes;
+pub mod reader;
+pub mod records;
+pub mod refuse;
+pub mod rng;
+pub mod rows;
+pub mod state_bytes;
+pub mod store;
+pub mod tree;
+pub mod value_text;
+pub mod walk;
