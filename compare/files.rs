@@ -30,14 +30,15 @@ fn length(bytes: &[u8]) -> usize {
 
 /// The files of the stored cases, each with its listing.
 fn stored(bytes: &[u8]) -> Vec<(&[u8], &[u8])> {
-    let mut parts = Vec::new();
+    let mut cases = Vec::new();
     let mut rest = bytes;
     while !rest.is_empty() {
-        let (part, behind) = rest[4..].split_at(length(rest));
-        parts.push(part);
-        rest = behind;
+        let (file, behind) = rest[4..].split_at(length(rest));
+        let (listing, behind) = behind[4..].split_at(length(behind));
+        cases.push((file, listing));
+        rest = &behind[8..];
     }
-    parts.chunks(2).map(|pair| (pair[0], pair[1])).collect()
+    cases
 }
 
 /// What a listing says of the reader: 1 to 5 where the file is refused so, else 0.

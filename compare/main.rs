@@ -17,7 +17,7 @@ use std::process::ExitCode;
 use std::time::Instant;
 
 /// From the repository's root.
-const CASES: &str = "cases/cases.bin";
+const CASES: &str = "crates/replay/data/cases.bin";
 
 fn main() -> ExitCode {
     let args: Vec<String> = std::env::args().skip(1).collect();

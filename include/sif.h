@@ -14,12 +14,12 @@
  *   refused with 9. Pointers are not null.
  * - Buffers may lie at any address: no alignment is asked for.
  * - Two buffers lent to one call must not overlap.
- * - Nothing else is read or written: no heap, no global data, no file. Every call ends: lower by the size of its file, run by the
+ * - Nothing else is written or kept: no heap, no writable global data, no file. Every call ends: lower by the size of its file, run by the
  *   steps given.
  * - Threads: calls on different buffers may run at the same time. A program that nobody writes may be lent to several calls at
  *   once, and a state that nobody writes to several sif_read_name; a state that is started or run is lent to that one call alone.
- * - Stack, measured on x86-64 over files at the limits (bench/run): sif_lower 146 KB at most, and it grows with the nodes of the
- *   file; sif_start, sif_run and sif_read_name under 3 KB. */
+ * - Stack, measured on x86-64: sif_lower 31 KB over the files at the limits of bench/run, and up to 196 KB on a file of nothing
+ *   but Elifs, each of which takes 0.6 KB (Ifs in one another, 333 Elifs in all); sif_start, sif_run, sif_read_name under 3 KB. */
 #ifndef SIF_H
 #define SIF_H
 

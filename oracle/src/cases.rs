@@ -120,14 +120,33 @@ fn case_8() -> bool {
     has(&list(&script), &["start 3", "fn 1 0", "end stopped 1 20 -1 2", "held 0"])
 }
 
+fn array_of(items: usize) -> Node {
+    program(vec![set_array(1, vec![num(1.0); items])])
+}
+
+fn registers(count: usize) -> Node {
+    program(vec![stmt(num(1.0)); count])
+}
+
+/// The files of cases 9 to 11.
+pub fn shown() -> [(&'static str, Vec<u8>); 6] {
+    [
+        ("24 items", array_of(24)),
+        ("25 items", array_of(25)),
+        ("96 registers", registers(96)),
+        ("97 registers", registers(97)),
+        ("call depth 24", call_depth(24)),
+        ("call depth 25", call_depth(25)),
+    ]
+    .map(|(name, root)| (name, file_of(&root)))
+}
+
 fn case_9() -> bool {
-    let script = |items: usize| program(vec![set_array(1, vec![num(1.0); items])]);
-    has(&list(&script(24)), &["end done 1"]) && list(&script(25)) == "refused 4\n"
+    has(&list(&array_of(24)), &["end done 1"]) && list(&array_of(25)) == "refused 4\n"
 }
 
 fn case_10() -> bool {
-    let script = |registers: usize| program(vec![stmt(num(1.0)); registers]);
-    has(&list(&script(96)), &["end done 96"]) && list(&script(97)) == "refused 7\n"
+    has(&list(&registers(96)), &["end done 96"]) && list(&registers(97)) == "refused 7\n"
 }
 
 fn case_11() -> bool {

@@ -1,7 +1,9 @@
-//! The tree files of examples/ and their pages.
+//! The tree files of examples/, their listings and their pages.
 
 use std::fs;
 
+use crate::cases::example_file;
+use crate::listing::listing;
 use crate::page::page;
 use crate::tree::*;
 
@@ -26,15 +28,21 @@ impl Words {
     }
 }
 
-/// Writes each example's tree file and page.
+/// Writes each example's tree file, listing and page.
 pub fn write(folder: &str) -> Result<(), String> {
     fs::create_dir_all(folder).map_err(|e| e.to_string())?;
-    for (name, file) in
-        [("worksheet", worksheet()), ("past_the_end", past_the_end()), ("long", long())]
-    {
-        let text = page(&file)?;
-        fs::write(format!("{folder}/{name}.tree"), &file).map_err(|e| e.to_string())?;
-        fs::write(format!("{folder}/{name}.txt"), text).map_err(|e| e.to_string())?;
+    for (name, file) in [
+        ("loop", example_file()),
+        ("worksheet", worksheet()),
+        ("past_the_end", past_the_end()),
+        ("long", long()),
+    ] {
+        let write = |ending: &str, bytes: &[u8]| {
+            fs::write(format!("{folder}/{name}.{ending}"), bytes).map_err(|e| e.to_string())
+        };
+        write("tree", &file)?;
+        write("listing", listing(&file).as_bytes())?;
+        write("txt", page(&file)?.as_bytes())?;
     }
     Ok(())
 }

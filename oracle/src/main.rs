@@ -1,8 +1,8 @@
 //! The program `oracle`: see README.md beside this folder.
 
 use oracle::{
-    bytes, cases, compare, examples, gen, listing, mutants, page, program, records, refuse, rows,
-    store,
+    bytes, cases, compare, counts, examples, gen, listing, listings, mutants, page, program,
+    records, refuse, rows, store,
 };
 use std::io::{self, Read, Write};
 use std::process::ExitCode;
@@ -37,9 +37,12 @@ fn command(words: &[&str]) -> Result<(), String> {
         ["gen", seed, count, kind, target] => {
             gen::generate(number(seed)?, number(count)? as usize, kind, target)
         }
-        ["example"] => io::stdout().write_all(&cases::example_file()).map_err(|e| e.to_string()),
         ["store", folder] => store::store(folder),
         ["replay", folder] => records::replay(folder),
+        ["listings", program, folder, seed, count, scratch] => {
+            listings::check(program, folder, number(seed)?, number(count)?, scratch)
+        }
+        ["counts", folder] => print(&counts::text(folder)?),
         ["rows", folder] => rows::check(folder),
         ["faults", seed] => store::faults(number(seed)?),
         ["mutants", sources, list, cases, scratch] => mutants::run(sources, list, cases, scratch),

@@ -3,12 +3,14 @@
 
 mod bound;
 mod build_tree;
+mod calls;
 mod driver;
 mod listing;
 mod lower;
 mod names;
 mod original;
-mod program;
+mod outcome;
+mod packed;
 mod program_bytes;
 mod reader;
 mod records;

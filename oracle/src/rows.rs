@@ -1,20 +1,24 @@
-//! The rows of the computed tables in crates/engine/proofs: what they expect has to be what the
-//! original leaves. Every line of a table has to be read: one that cannot be is a failure.
+//! The rows of the computed tables in crates/: what they expect has to be what the original leaves.
+//! Every line of a table has to be read: one that cannot be is a failure.
 
 use std::fs;
 
 use crate::listing::{listing, state_of_file, STEPS};
 use crate::program::run_text;
 
-/// Compares every row of the three tables in a folder with the original.
-pub fn check(folder: &str) -> Result<(), String> {
+/// Compares every row of the tables in the folder of the crates with the original.
+pub fn check(crates: &str) -> Result<(), String> {
     let read = |name: &str| {
-        fs::read_to_string(format!("{folder}/{name}")).map_err(|e| format!("{name}: {e}"))
+        fs::read_to_string(format!("{crates}/{name}")).map_err(|e| format!("{name}: {e}"))
     };
-    let files = files_of(&read("Cases.antt")?)? + files_of(&read("Rows.antt")?)?;
-    let programs = programs_of(&read("Programs.antt")?)?;
+    let files = files_of(&read("engine/proofs/Cases.antt")?)?
+        + files_of(&read("engine/proofs/Rows.antt")?)?;
+    let programs = programs_of(&read("engine/proofs/Programs.antt")?)?;
+    let lowerings = lowerings_of(&read("compiler/proofs/Computed.antt")?)?;
+    let readings = readings_of(&read("ast/proofs/Computed.antt")?)?;
     println!(
-        "rows: {files} files and {programs} programs of the computed tables, as by the original"
+        "rows: {files} files, {programs} programs, {lowerings} lowerings and {readings} readings \
+         of the computed tables, as by the original"
     );
     Ok(())
 }
@@ -87,6 +91,99 @@ fn at_least_one(count: usize) -> Result<usize, String> {
     }
 }
 
+/// The file of a row that begins with its size and the file as one number, and what stands behind.
+fn file_row(line: &str) -> Result<(Vec<u8>, &str), String> {
+    let no_row = || format!("no row: {line}");
+    let rest = line.strip_prefix("row ").ok_or_else(no_row)?;
+    let (size, rest) = rest.split_once(" 0x").ok_or_else(no_row)?;
+    let (hex, behind) = rest.split_once(' ').unwrap_or((rest, ""));
+    let file = bytes(hex)?;
+    if size.parse() == Ok(file.len()) {
+        Ok((file, behind))
+    } else {
+        Err(format!("not so many bytes: {line}"))
+    }
+}
+
+/// What the original lowers a file to: code start and instructions, or the refusal.
+fn lowering(file: &[u8]) -> String {
+    let text = listing(file);
+    let shown = |line: &&str| ["start ", "op ", "refused "].iter().any(|w| line.starts_with(w));
+    text.lines().filter(shown).map(|line| format!("{line}\n")).collect()
+}
+
+/// Rows with a file, its tree, and what the tree is lowered to. That the file is read as the tree
+/// is proved in the table itself.
+fn lowerings_of(table: &str) -> Result<usize, String> {
+    let lines = list(table, "Row")?;
+    let mut lines = lines.iter();
+    let mut count = 0;
+    while let Some(line) = lines.next() {
+        let (file, behind) = file_row(line)?;
+        let tree = lines.next().ok_or("a row breaks off")?;
+        if !behind.is_empty()
+            || !["(script ", "(times ", "noStmts"].iter().any(|w| tree.starts_with(w))
+        {
+            return Err(format!("a row cannot be read: {line}"));
+        }
+        if lowering(&file) != lowered_text(&mut lines)? {
+            return Err(format!("not the original's: {line}"));
+        }
+        count += 1;
+    }
+    at_least_one(count)
+}
+
+/// What a row says its tree is lowered to, in the listing's words.
+fn lowered_text<'l>(lines: &mut impl Iterator<Item = &'l &'l str>) -> Result<String, String> {
+    let line = lines.next().ok_or("a row breaks off")?;
+    let refused =
+        line.strip_prefix("(refused ").and_then(|rest| rest.strip_suffix(") refl refl ∷"));
+    if let Some(number) = refused {
+        return Ok(format!("refused {number}\n"));
+    }
+    let start = line.strip_prefix("(program ").and_then(|rest| rest.strip_suffix(" ("));
+    let start = start.ok_or(format!("a row cannot be read: {line}"))?;
+    Ok(format!("start {start}\n{}", ops_until(lines, "[])) refl refl ∷")?))
+}
+
+/// Rows with a file and what it is read as: a refusal or a tree.
+fn readings_of(table: &str) -> Result<usize, String> {
+    let lines = list(table, "Row")?;
+    for line in &lines {
+        let (file, behind) = file_row(line)?;
+        let read = behind.strip_suffix(" refl ∷").ok_or(format!("a row cannot be read: {line}"))?;
+        let lowered = lowering(&file);
+        let number = lowered.strip_prefix("refused ").map(str::trim_end);
+        let same = match number {
+            Some(number) => read == format!("(Refused {number})"),
+            None => read.starts_with("(Tree "),
+        };
+        if !same {
+            return Err(format!("not the original's: {line}"));
+        }
+    }
+    at_least_one(lines.len())
+}
+
+/// The `op` lines of instructions, up to a list's end.
+fn ops_until<'l>(
+    lines: &mut impl Iterator<Item = &'l &'l str>,
+    end: &str,
+) -> Result<String, String> {
+    let mut text = String::new();
+    for index in 0.. {
+        let line = lines.next().ok_or("a program breaks off")?;
+        if *line == end {
+            break;
+        }
+        let instr = line.strip_prefix("instr ").and_then(|rest| rest.strip_suffix(" ∷"));
+        let instr = instr.ok_or(format!("a row cannot be read: {line}"))?;
+        text.push_str(&format!("op {index} {}\n", instr_text(instr)));
+    }
+    Ok(text)
+}
+
 /// Code start and steps of a program row's first line.
 fn head(line: &str) -> Option<(u64, u64)> {
     let words: Vec<&str> = line.strip_prefix("programRow ")?.split_whitespace().collect();
@@ -102,18 +199,7 @@ fn programs_of(table: &str) -> Result<usize, String> {
     let mut count = 0;
     while let Some(line) = lines.next() {
         let (start, steps) = head(line).ok_or(format!("no program row: {line}"))?;
-        let mut text = format!("start {start}\n");
-        let mut index = 0;
-        loop {
-            let line = lines.next().ok_or("a program breaks off")?;
-            if *line == "[])" {
-                break;
-            }
-            let instr = line.strip_prefix("instr ").and_then(|rest| rest.strip_suffix(" ∷"));
-            let instr = instr.ok_or(format!("a row cannot be read: {line}"))?;
-            text.push_str(&format!("op {index} {}\n", instr_text(instr)));
-            index += 1;
-        }
+        let text = format!("start {start}\n{}", ops_until(&mut lines, "[])")?);
         let answer = text_alone(lines.next(), " ∷")?;
         if run_text(&text, Some(steps))? != answer {
             return Err(format!("not the original's: {text}"));
@@ -148,7 +234,7 @@ fn instr_text(instr: &str) -> String {
                 at += 1;
             }
             word => {
-                out.push(String::from(word));
+                out.push(String::from(word.trim_start_matches("BinOpKind.")));
                 at += 1;
             }
         }

@@ -1,15 +1,22 @@
-//! The stored answers: records of a file and its listing, each behind its length in 4 bytes.
+//! The stored answers: tree files with their listings, programs with the machine that they leave.
 
 use std::collections::BTreeSet;
 use std::fs;
 
+use crate::cases::shown;
 use crate::gen::{by_seed, damaged_list, directed, items};
+use crate::gen_buffers;
 use crate::listing::listing;
-use crate::program::run_text;
+use crate::packed::packed;
+use crate::program::{read_program, Fault};
+use crate::program_bytes::Code;
 use crate::records::Record;
 
 const CASES_BYTES: usize = 1 << 20;
 const PROGRAMS_BYTES: usize = 1 << 18;
+/// A stored program has at most so many bytes.
+const PROGRAM_BYTES: usize = 6_000;
+const BUFFER_STEPS: u64 = 50;
 const SEED: u64 = 2024;
 
 /// Kinds in the order of the store: how many items are made by the seed behind the directed
@@ -20,7 +27,7 @@ const KINDS: [(&str, usize, usize, usize, &str); 5] = [
     ("damaged", 500, 150, 40_000, ""),
     ("other", 5000, 1_000, 140_000, "Call"),
     ("values", 7, 3_000, 22_000, ""),
-    ("plain", 4000, 1_000, 150_000, "JmpCnd"),
+    ("plain", 4000, 1_000, 120_000, "JmpCnd"),
 ];
 
 /// Writes `cases.bin` and `programs.bin` into a folder; prints how many of each kind.
@@ -49,16 +56,20 @@ type Count = (&'static str, usize, usize);
 
 fn cases() -> Result<(Vec<u8>, Vec<Count>), String> {
     let mut out = Vec::new();
-    let mut counts = Vec::new();
     let mut seen = BTreeSet::new();
+    for (_, given) in shown() {
+        seen.insert(given.clone());
+        Record::of_file(given).write(&mut out);
+    }
+    let mut counts = vec![("cases 9 to 11", seen.len(), out.len())];
     for (kind, made, longest, room, word) in KINDS {
         let directed = directed(kind, SEED)?.into_iter().map(|given| (given, false));
         let by_seed = by_seed(kind, SEED, made).into_iter().map(|given| (given, true));
         let (mut count, start, mut room) = (0, out.len(), room);
         for (given, chosen) in directed.chain(by_seed) {
-            let record = Record { answer: listing(&given), given };
+            let record = Record::of_file(given);
             let length = record.length();
-            let fits = length <= longest.min(room) && record.answer.contains(word);
+            let fits = length <= longest.min(room) && contains(&record.answer, word);
             if !seen.insert(record.given.clone()) || chosen && !fits {
                 continue;
             }
@@ -71,13 +82,45 @@ fn cases() -> Result<(Vec<u8>, Vec<Count>), String> {
     Ok((out, counts))
 }
 
+fn contains(text: &[u8], word: &str) -> bool {
+    word.is_empty() || text.windows(word.len()).any(|part| part == word.as_bytes())
+}
+
+/// The steps of a stored program, then its parts.
+fn given(steps: u64, program: &[u8]) -> Vec<u8> {
+    let mut out = steps.to_be_bytes().to_vec();
+    out.extend(packed(program));
+    out
+}
+
+/// The stored form of a program text; none where document 01 refuses it.
+fn given_of_text(text: &[u8]) -> Result<Option<Vec<u8>>, String> {
+    let text = std::str::from_utf8(text).map_err(|e| e.to_string())?;
+    match read_program(text) {
+        Ok(program) => {
+            let steps = program.steps.ok_or("no number of steps")?;
+            Ok(Some(given(steps, &Code::new(program.instrs, program.start).bytes())))
+        }
+        Err(Fault::Refused(_)) => Ok(None),
+        Err(Fault::Written(why)) => Err(why),
+    }
+}
+
+/// Buffers at the edges of 8, then the programs of texts.
 fn programs() -> Result<(Vec<u8>, usize), String> {
+    let mut all = Vec::new();
+    for (_, program, _) in gen_buffers::programs() {
+        all.push(given(BUFFER_STEPS, &program));
+    }
+    for text in items("programs", SEED, 1100)? {
+        all.extend(given_of_text(&text)?);
+    }
     let mut out = Vec::new();
     let mut count = 0;
-    for given in items("programs", SEED, 1100)? {
-        let text = String::from_utf8(given.clone()).map_err(|e| e.to_string())?;
-        let record = Record { answer: run_text(&text, None)?, given };
-        if out.len() + record.length() <= PROGRAMS_BYTES {
+    for given in all {
+        let record = Record::of_program(given)?;
+        let chosen = record.given.len() <= PROGRAM_BYTES;
+        if chosen && out.len() + record.length() <= PROGRAMS_BYTES {
             record.write(&mut out);
             count += 1;
         }

@@ -5,6 +5,7 @@ use std::ffi::c_void;
 const PAGE: usize = 4096;
 /// What stands between a buffer and the guard that it does not touch.
 const SLACK: u8 = 0xd7;
+const SLACK_PAGE: [u8; PAGE] = [SLACK; PAGE];
 
 const NONE: i32 = 0;
 const READ_WRITE: i32 = 3;
@@ -48,14 +49,13 @@ pub struct Lent {
     size: usize,
     from: usize,
     to: usize,
-    at_end: bool,
 }
 
 impl Lent {
     /// For a buffer whose size is such, and longer ones of up to so many bytes more.
     pub fn new(size: usize, more: usize) -> Lent {
         let (exact, longer) = (Pages::new(size), Pages::new(size + more));
-        Lent { exact, longer, size, from: 0, to: 0, at_end: false }
+        Lent { exact, longer, size, from: 0, to: 0 }
     }
 
     fn pages(&mut self, len: usize) -> &mut Pages {
@@ -69,11 +69,10 @@ impl Lent {
     /// Lends so many bytes, at the start or at the end of their pages, all of them written.
     pub fn lend(&mut self, contents: &[u8], at_end: bool) {
         let len = contents.len();
-        if len != self.to - self.from || at_end != self.at_end {
+        let from = if at_end { self.pages(len).room - len } else { 0 };
+        if len != self.to - self.from || from != self.from {
             self.bytes().fill(SLACK);
-            self.from = if at_end { self.pages(len).room - len } else { 0 };
-            self.to = self.from + len;
-            self.at_end = at_end;
+            (self.from, self.to) = (from, from + len);
         }
         self.bytes().copy_from_slice(contents);
     }
@@ -91,11 +90,15 @@ impl Lent {
         }
         let (from, to) = (self.from, self.to);
         let all = self.pages(to - from).bytes();
-        if all[..from].iter().chain(&all[to..]).any(|byte| *byte != SLACK) {
+        if !is_slack(&all[..from]) || !is_slack(&all[to..]) {
             return Err(format!("bytes around {what} were written"));
         }
         Ok(())
     }
+}
+
+fn is_slack(bytes: &[u8]) -> bool {
+    bytes.chunks(PAGE).all(|part| part == &SLACK_PAGE[..part.len()])
 }
 
 fn difference(ours: &[u8], expected: &[u8]) -> usize {

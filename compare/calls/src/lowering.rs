@@ -24,11 +24,11 @@ fn one(place: &mut Place, file: &[u8], rng: &mut Rng, all: bool) -> Result<u64, 
 /// All stored cases, each into every sort of buffer.
 pub fn stored(place: &mut Place, folder: &str) -> Result<usize, String> {
     let cases = records::load(folder, "cases.bin")?;
-    for (item, (file, listing)) in cases.iter().enumerate() {
+    for (item, case) in cases.iter().enumerate() {
         place.comes_from(format!("stored case {item}"));
-        let number = one(place, file, &mut Rng::new(1, item as u64), true)?;
+        let number = one(place, &case.given, &mut Rng::new(1, item as u64), true)?;
         let refused = format!("refused {number}\n");
-        if (number != 0) != (listing.starts_with(b"refused")) {
+        if (number != 0) != (case.answer.starts_with(b"refused")) {
             return Err(format!("stored case {item} is not {refused}"));
         }
     }
@@ -58,7 +58,7 @@ pub fn generated(place: &mut Place, seed: u64, count: u64) -> Result<u64, String
 /// Damaged copies of stored and generated files.
 pub fn damaged(place: &mut Place, folder: &str, seed: u64, count: u64) -> Result<(), String> {
     let mut files: Vec<Vec<u8>> =
-        records::load(folder, "cases.bin")?.into_iter().map(|pair| pair.0).collect();
+        records::load(folder, "cases.bin")?.into_iter().map(|case| case.given).collect();
     files.extend(gen::by_seed("large", seed, 200));
     files.extend(gen::by_seed("texts", seed, 200));
     for item in 0..count {

@@ -260,15 +260,15 @@ pub fn one(
 
 /// All stored cases and programs, with the listing's steps.
 pub fn stored(place: &mut Place, folder: &str, figures: &mut Figures) -> Result<(), String> {
-    for (item, (file, _)) in records::load(folder, "cases.bin")?.iter().enumerate() {
-        if let Ok((_, lowered)) = lower_file(file) {
+    for (item, case) in records::load(folder, "cases.bin")?.iter().enumerate() {
+        if let Ok((_, lowered)) = lower_file(&case.given) {
             place.comes_from(format!("stored case {item}"));
             let mut rng = Rng::new(2, item as u64);
             one(place, &Code::of_lowered(lowered), &mut rng, 100_000, figures)?;
         }
     }
-    for (item, (text, _)) in records::load(folder, "programs.bin")?.iter().enumerate() {
-        if let Some(code) = code_of_text(text)? {
+    for (item, stored) in records::load(folder, "programs.bin")?.iter().enumerate() {
+        if let Ok(code) = Code::read(&records::program(&stored.given)?.1) {
             place.comes_from(format!("stored program {item}"));
             one(place, &code, &mut Rng::new(3, item as u64), 1000, figures)?;
         }

@@ -11,3 +11,4 @@ mod Keys
 mod Same
 mod Order
 mod Places
+mod Computed

@@ -13,11 +13,6 @@ ghost use Rattle.ast.specs.File.{sum, readTree};
 ghost use Rattle.ast.specs.Room.{Room};
 ghost use Rattle.ast.specs.Answer.{answerOf, partsAnswer, bodiesAnswer};
 
-// Limits of a tree file (document 01, refusals 2 and 4).
-pub const NODES: usize = 1024;
-
-pub const TEXTS: usize = 64;
-
 // The checks of the bodies: texts (3), fields (5), structure (4). total is the size of the texts.
 fn read_bodies(count: u64, lengths: &[u8], entries: &[u8], total: usize, bodies: &[u8]) -> u64
     requires { ⌜ (count ≤ 64) × (1 ≤ length (now lengths)) × (length (now lengths) ≤ 64) × (length (now entries) ≤ 2048) ⌝ }

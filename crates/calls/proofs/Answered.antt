@@ -9,7 +9,7 @@ use lib.Dec.{ltb}
 use lib.ListN.{length, take, drop, length-append, length-drop}
 use lib.Seq.{drop-length}
 use borrow.Author.Tests.{lt-ltb, le-ltb}
-use Rattle.lent.specs.Bytes.{part, splice, AreBytes}
+use Rattle.lent.specs.Bytes.{beValue, part, splice, AreBytes}
 use Rattle.lent.specs.Parts.{part-part, length-part}
 use Rattle.lent.specs.Slots.{slot-end}
 use Rattle.sifv.specs.Slot.{encodeSlot}
@@ -19,17 +19,19 @@ use Rattle.vm.specs.Machine.{Machine, State, Ran, Answer, started, run}
 use Rattle.vm.specs.Kept.{accepted-storable, storable-sound}
 use Rattle.vm.specs.StateBytes.{encodeState, decodeState, stateOk}
 use Rattle.execute.specs.View.{view, locOf, Cells, Laid, Holds, Canon}
-use Rattle.execute.specs.Laying.{laid-view, laid-canon}
+use Rattle.execute.specs.Laying.{laid-view, laid-canon, length-stack, length-frames}
 use Rattle.execute.specs.Programs.{programOf, Ready, ready}
-use Rattle.execute.specs.declared.Loc.{Loc}
 use Rattle.tables.specs.ProgramLaws.{limits}
 use Rattle.tables.specs.ProgramRange.{program-within}
 use Rattle.state.specs.Whole.{accepted-holds, accepted-loc}
-use Rattle.state.specs.Fields.{locAt}
+use Rattle.state.specs.Fields.{locAt, progressAt}
 use Rattle.run.specs.Runs.{at, Answers, Came, Ended}
+use Rattle.run.specs.declared.Progress.{Progress}
 use Rattle.run.specs.declared.Ran.{Ran as GivenRan}
 use Rattle.lower.specs.LowerCall.{over, answered}
 use Rattle.report.specs.Report.{report}
+use Rattle.report.specs.Fields.{told}
+use Rattle.report.specs.Told.{told-report}
 use Rattle.calls.specs.Calls.{startOn, startCall, RunAnswered, ranOut, runRefused, runOn, runCall, readCall}
 use Rattle.program.specs.Held.{isSome, missing}
 use Rattle.calls.specs.Finished.{Finished}
@@ -180,55 +182,66 @@ module _ (n : ℕ) (b : List ℕ) (o : n ≤ 1024) (a : AreBytes b) (l : 47360 �
         in-rest = part-part b 0 47360 47348 12 (omega arith) ∙ h .in-rest;
       }
 
-  pub used-canon : {first : Loc} → first ≡ locAt b → Canon n (part b 0 47360) first
-  used-canon {first} ef = subst (Canon n (part b 0 47360)) (sym (ef ∙ accepted-loc n b o a l e)) (laid-canon n (decodeState b .machine) (part b 0 47360) (storable-sound n (decodeState b) (accepted-storable n b o a l e)) o used-holds)
+  used-loc : locOf (decodeState b .machine) ≡ locAt b
+  used-loc = sym (accepted-loc n b o a l e)
 
-  pub used-state : at (part b 0 47360) (locOf (decodeState b .machine)) (decodeState b .count) ≡ decodeState b
-  used-state =
-      ap (λ (m : Machine). record { machine = m; count = decodeState b .count })
-      (laid-view n (decodeState b .machine) (part b 0 47360) (storable-sound n (decodeState b) (accepted-storable n b o a l e)) o used-holds)
+  pub used-canon : {first : Progress} → first ≡ progressAt b → Canon n (part b 0 47360) (first .loc)
+  used-canon {first} ef =
+      subst (Canon n (part b 0 47360)) (used-loc ∙ ap (λ (x : Progress). x .loc) (sym ef))
+      (laid-canon n (decodeState b .machine) (part b 0 47360) (storable-sound n (decodeState b) (accepted-storable n b o a l e)) o used-holds)
+
+  pub used-state : {first : Progress} → first ≡ progressAt b → at (part b 0 47360) first ≡ decodeState b
+  unfolding decodeState
+  used-state {first} ef =
+      ap (at (part b 0 47360)) ef
+      ∙ ap (λ (m : Machine). record { machine = m; count = beValue (part b 47336 8) })
+      (ap (view (part b 0 47360)) (sym used-loc) ∙ laid-view n (decodeState b .machine) (part b 0 47360) (storable-sound n (decodeState b) (accepted-storable n b o a l e)) o used-holds)
+
+-- the count that the progress has
+pub counted-so : (b : List ℕ) {first : Progress} → first ≡ progressAt b → decodeState b .count ≡ first .count
+unfolding decodeState
+counted-so b ef = ap (λ (x : Progress). x .count) (sym ef)
 
 -- ---- what a run leaves
 
--- the steps that are left were given
-pub few-left : {n : ℕ} {p : Program} {steps : ℕ} {b b' : List ℕ} {first : Loc} {r : GivenRan} → Ended n p steps b first b' r → r .left ≤ steps
-few-left e = omega (arith, e .came 0 .counted)
+-- it can be written back
+pub to-write : {n : ℕ} {p : Program} {steps : ℕ} {b b' : List ℕ} {first : Progress} {r : GivenRan} → Ended n p steps b first b' r
+    → Holds b' (view b' (r .progress .loc)) × (r .progress .loc .depth ≤ 24) × (r .progress .loc .calls ≤ 24)
+to-write {b' = b'} {r = r} e =
+    let k = e .canon in
+    (k .holds, omega (arith, k .sound .stack-max, length-stack b' (r .progress .loc .depth)), omega (arith, k .sound .calls-max, length-frames b' (r .progress .loc .calls)))
 
-pub finished : {n : ℕ} (p : Program) (steps count : ℕ) (b : List ℕ) (first : Loc) {b₁ b' : List ℕ} {r : GivenRan} → Ended n p steps b first b₁ r → length b₁ ≡ 47360
-    → b' ≡ encodeState (record { machine = view b₁ (r .loc); count = count + (steps - r .left) }) ++ drop 47360 b₁ → Finished (run p steps (at b first count)) count steps b' r
-finished p steps count b first {b₁} {b'} {r} e l w =
-    let x = run p steps (at b first count) in
-    let k = e .came count in
-    let few = few-left e in
-    let z : x .state .count ≡ count + (steps - r .left) = omega (arith, k .counted) in
-    let s : x .state ≡ record { machine = view b₁ (r .loc); count = count + (steps - r .left) } = λ i. record { machine = k .machine i; count = z i } in
+pub finished : {n : ℕ} (p : Program) (steps : ℕ) (b : List ℕ) (first : Progress) {b₁ b' : List ℕ} {r : GivenRan} → Ended n p steps b first b₁ r → length b₁ ≡ 47360
+    → b' ≡ encodeState (at b₁ (r .progress)) ++ drop 47360 b₁ → Finished (run p steps (at b first)) first b' r
+finished p steps b first {b₁} {b'} {r} e l w =
+    let s = e .came .state in
     let d : drop 47360 b₁ ≡ [] = ap (λ (j : ℕ). drop j b₁) (sym l) ∙ drop-length b₁ in
     record {
-      answers = k .answers;
-      bytes = w ∙ ap₂ (λ (u v : List ℕ). u ++ v) (ap encodeState (sym s)) d ∙ append-nil (encodeState (x .state));
-      position = ap (λ (m : Machine). m .pos) (k .machine);
-      counted = z;
-      few = few;
+      answers = e .came .answers;
+      bytes = w ∙ ap₂ (λ (u v : List ℕ). u ++ v) (ap encodeState (sym s)) d ∙ append-nil (encodeState (run p steps (at b first) .state));
+      position = ap (λ (x : State). x .machine .pos) s;
+      counted = ap (λ (x : State). x .count) s;
+      begun = e .begun;
       inside = omega (arith, e .canon .sound .pos-max, e .canon .small);
     }
 
 -- the state and the report behind an accepted run
 pub run-written : (q b : List ℕ) (steps : ℕ) (out : List ℕ) → isSome (decodeProgram q) ≡ true → {n : ℕ} → n ≡ length (programOf q .code) → n ≤ 1024 → AreBytes b → 65536 ≤ length b → {t : Bool} → t ≡ stateOk n b → t ≡ true
-    → {count : ℕ} → count ≡ decodeState b .count → steps ≤ 18446744073709551615 - count → {first : Loc} → first ≡ locAt b
-    → {b₁ b' out' : List ℕ} {r : GivenRan} → Finished (run (programOf q) steps (at (part b 0 47360) first count)) count steps b₁ r → length b₁ ≡ 47360 → b' ≡ splice b 0 b₁
+    → {first : Progress} → first ≡ progressAt b → steps ≤ 18446744073709551615 - first .count
+    → {b₁ b' out' : List ℕ} {r : GivenRan} → Finished (run (programOf q) steps (at (part b 0 47360) first)) first b₁ r → length b₁ ≡ 47360 → b' ≡ splice b 0 b₁
     → {start : ℕ} → programOf q .codeStart ≡ start
-    → ((p : Program) (a : Answer) (s : State) → Answers a (r .answer) → p .codeStart ≡ start → s .machine .pos ≡ r .loc .pos → out' ≡ report p a s (steps - r .left) ++ drop 48 out) → length out' ≡ length out → 48 ≤ length out
+    → out' ≡ told start (r .answer) (r .progress .loc .pos) (r .progress .count - first .count) ++ drop 48 out → length out' ≡ length out → 48 ≤ length out
     → runOn (decodeProgram q) b steps out ≡ record { result = 0; state = b'; report = out' }
-run-written q b steps out h {n} en o a lb {t} et ft {count} ec hc {first} ef {b₁} {b'} {out'} {r} f l₁ eb {start} es rep lo ho =
+run-written q b steps out h {n} en o a lb {t} et ft {first} ef hc {b₁} {b'} {out'} {r} f l₁ eb {start} es rep lo ho =
     let ok : stateOk n b ≡ true = sym et ∙ ft in
     let fits = accepted-storable n b o a (omega arith) ok .counted in
     let p = programOf q in
     let x = run p steps (decodeState b) in
-    let e₀ : at (part b 0 47360) first count ≡ decodeState b = ap₂ (λ (u : Loc) (v : ℕ). at (part b 0 47360) u v) (ef ∙ accepted-loc n b o a (omega arith) ok) ec ∙ used-state n b o a (omega arith) ok in
-    let g : Finished x count steps b₁ r = subst (λ (s : State). Finished (run p steps s) count steps b₁ r) e₀ f in
+    let g : Finished x first b₁ r = subst (λ (s : State). Finished (run p steps s) first b₁ r) (used-state n b o a (omega arith) ok ef) f in
     let s' : b' ≡ over (encodeState (x .state)) b = eb ∙ ap (λ (y : List ℕ). over y b) (g .bytes) in
-    let took : x .state .count - decodeState b .count ≡ steps - r .left = omega (arith, g .counted, g .few) in
-    let w = over-is (report p (x .answer) (x .state) (steps - r .left)) out out' 48 (rep p (x .answer) (x .state) (g .answers) es (g .position)) ho lo in
-    run-accepted q b steps out h en et ft (omega arith)
+    let k = r .progress .count - first .count in
+    let took : x .state .count - decodeState b .count ≡ k = ap₂ (λ (u v : ℕ). u - v) (g .counted) (counted-so b ef) in
+    let w = over-is (report p (x .answer) (x .state) k) out out' 48 (rep ∙ ap (λ (y : List ℕ). y ++ drop 48 out) (told-report p (x .state) k (g .answers) es (g .position))) ho lo in
+    run-accepted q b steps out h en et ft (omega (arith, counted-so b ef))
     ∙ ap₂ (λ (u v : List ℕ). record { result = 0; state = u; report = v }) (sym s')
-    (ap (λ (k : ℕ). over (report p (x .answer) (x .state) k) out) took ∙ sym w)
+    (ap (λ (j : ℕ). over (report p (x .answer) (x .state) j) out) took ∙ sym w)

@@ -1,23 +1,18 @@
 // The calls start, run and read_name on lent bytes: what each answers, and what every buffer holds afterwards, refused calls too.
 ghost use mathlib.Core.Path.{_≡_};
 ghost use mathlib.Core.Bool.{true};
-ghost use mathlib.Core.List.{_++_};
-ghost use mathlib.Core.Option.{some};
-ghost use Prim.Native.Nat.{ℕ, _+_, _-_, _≤_, _<_, _^_};
-ghost use lib.ListN.{length, drop};
-ghost use Rattle.lent.specs.Bytes.{part, splice};
-ghost use Rattle.tables.specs.Tables.{Program};
+ghost use Prim.Native.Nat.{_+_, _≤_, _<_, _^_};
+ghost use lib.ListN.{length};
 ghost use Rattle.tables.specs.ProgramBytes.{decodeProgram};
 ghost use Rattle.vm.specs.Machine as Machine;
-ghost use Rattle.vm.specs.StateBytes.{stateOk, decodeState, encodeState};
-ghost use Rattle.execute.specs.View.{view, locOf, Canon};
+ghost use Rattle.execute.specs.View.{Canon};
 ghost use Rattle.execute.specs.Programs.{programOf, Ready};
 ghost use Rattle.run.specs.Runs.{at};
 ghost use Rattle.lower.specs.LowerCall.{answered};
 ghost use Rattle.calls.specs.Calls.{startCall, runOn, runCall, readCall};
 ghost use Rattle.program.specs.Held.{isSome};
 ghost use Rattle.calls.specs.Finished.{Finished};
-use execute::Loc;
+use run::Progress;
 use run::Ran;
 
 // 9, 8; a fresh state for the program.
@@ -38,14 +33,18 @@ pub fn start(program: &[u8], state: &mut [u8]) -> u64
 }
 
 // At most so many steps on the used bytes of a state, which are then the state behind them.
-fn run_used(program: &[u8], state: &mut [u8], n: usize, steps: u64, first: Loc, count: u64) -> Ran
-    requires { ⌜ Ready (now program) (programOf (now program)) × Canon n (now state) first × (n ≡ length (programOf (now program) .code)) × (length (now state) ≡ 47360) × (count + steps < 2 ^ 64) ⌝ }
-    ensures { λ r. ⌜ Finished (Machine.run (programOf (now (program .entry))) steps (at (now (state .entry)) first count)) count steps (now (state .exit)) r ⌝ }
+fn run_used(program: &[u8], state: &mut [u8], n: usize, steps: u64, first: Progress) -> Ran
+    requires { ⌜ Ready (now program) (programOf (now program)) × Canon n (now state) (first .loc) × (n ≡ length (programOf (now program) .code)) × (first .count + steps < 2 ^ 64) × (length (now state) ≡ 47360) ⌝ }
+    ensures { λ r. ⌜ Finished (Machine.run (programOf (now (program .entry))) steps (at (now (state .entry)) first)) first (now (state .exit)) r ⌝ }
 {
-    let ran = run::run(program, state, n, steps, first);
-    let took = steps - ran.left;
-    state::write_back(state, ran.loc, count + took);
-    ran
+    let mut p = first;
+    let answer = run::run(program, state, n, steps, &mut p);
+    let last = p;
+    state::write_back(state, last);
+    Ran {
+        answer,
+        progress: last,
+    }
 }
 
 // 10; at most so many steps, and the report.
@@ -57,16 +56,17 @@ fn run_on(program: &[u8], state: &mut [u8], steps: u64, report: &mut [u8]) -> u6
     if !state::state_ok(state, n as u64) {
         return 10;
     }
-    let count = state::count_of(state);
+    let first = state::progress_of(state);
+    let count = first.count;
     if 18446744073709551615 - count < steps {
         return 10;
     }
-    let first = state::loc_of(state);
-    let ran = run_used(program, &mut state[0..47360], n, steps, first, count);
-    let loc = ran.loc;
+    let ran = run_used(program, &mut state[0..47360], n, steps, first);
     let answer = ran.answer;
+    let last = ran.progress;
+    let loc = last.loc;
     let start = program::start_of(program) as u64;
-    report::write_report(report, start, answer, loc.pos, steps - ran.left);
+    report::write_report(report, start, answer, loc.pos, last.count - count);
     0
 }
 

@@ -8,3 +8,4 @@ pub mod Regs
 pub mod Spell
 pub mod Leaves
 pub mod Places
+pub mod Loops

@@ -17,14 +17,14 @@ ghost use Rattle.emit.specs.Run.{kept, after, step, refuse, full, counte
 ghost use Rattle.emit.specs.Made.{Made, binCode};
 
 // What events change: the next register, the instructions pushed, the records and the items written, the refusal;
-// and whether this is the pass for the declarations.
+// and whether this is the pass for the declarations. The two that are one byte stand together: each call copies it.
 pub struct Low {
     pub reg: u8,
+    pub decls: bool,
     pub count: u64,
     pub recs: usize,
     pub items: usize,
     pub refused: u64,
-    pub decls: bool,
 }
 
 // The bytes of the entries and of the bodies that are read, the label and the state behind them.

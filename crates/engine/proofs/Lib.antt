@@ -2,4 +2,5 @@ pub mod Shown
 pub mod Cases
 pub mod Rows
 pub mod Programs
+mod Started
 mod Carrying

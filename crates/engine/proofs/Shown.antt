@@ -14,7 +14,10 @@ use Rattle.tables.specs.Tables.{Program}
 use Rattle.compiler.specs.Lower.{lower, Lowered, refused, lowered}
 use Rattle.vm.specs.Machine.{Machine, State, started, Ran, run}
 use Rattle.text.specs.Text.{ascii, decimal, valueText, lineOf}
-use Rattle.engine.specs.Listing.{words, indexLines, ranText, listing}
+use Rattle.text.specs.Text.{words}
+use Rattle.ops.specs.ProgramText.{indexLines}
+use Rattle.ending.specs.Ending.{ranText}
+use Rattle.engine.specs.Listing.{listing}
 
 -- ---- files in hex
 

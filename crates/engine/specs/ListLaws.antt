@@ -134,7 +134,7 @@ none-run f = record { ns = []; follows = f; given = omega arith }
 module _ (program : List ℕ) (p : Program) (size : programSize ≤ length program) (back : decodeProgram program ≡ some p) (ok : programOk p ≡ true)
     (numbers : Each (λ (i : Instr). OpFits (op i)) (p .code)) where
   -- a run on a state as the engine left it: 9 only for the report buffer, 10 only for the count
-  run-answers : {b : List ℕ} {s : State} → Holds (length (p .code)) b s → (n : ℕ) (out : List ℕ) → runCall program b n out
+  pub run-answers : {b : List ℕ} {s : State} → Holds (length (p .code)) b s → (n : ℕ) (out : List ℕ) → runCall program b n out
       ≡ cond (ltb (length out) reportSize) (runRefused 9 b out) (cond (ltb (s .count + n) (2 ^ 64)) (ranOut p (run p n s) (s .count) b out) (runRefused 10 b out))
   unfolding runCall
   run-answers {b} {s} h n out = rw (le-ltb (length program) programSize size, le-ltb (length b) stateSize (h .long), back, accepted h, decodes h)

@@ -11,15 +11,6 @@ ghost use Rattle.engine.specs.CallList.{Call, Run, ReadName, endingIn};
 ghost use Rattle.engine.specs.CallBytes.{callOf, lastOf};
 ghost use Rattle.engine.specs.CarriedOut.{Leaves, Follows, CarriedOut};
 
-// Sizes of the buffers that a caller lends (docs/FORMATS.md).
-pub const PROGRAM_BYTES: usize = 40960;
-
-pub const STATE_BYTES: usize = 65536;
-
-pub const REPORT_BYTES: usize = 48;
-
-pub const VALUE_BYTES: usize = 256;
-
 // ---- the calls from C: a slice is a pointer and a length
 
 #[no_mangle]

@@ -11,31 +11,23 @@ ghost use Rattle.vm.specs.StateBytes.{stackAt, framesAt, functionsAt};
 ghost use lib.ListN.{length, getD};
 ghost use Rattle.lent.specs.Bytes.{part, splice};
 ghost use Rattle.sifv.specs.Value.{One, Bl};
-ghost use Rattle.sifv.specs.Seen.{bare, kindIn, seen, setItem};
-ghost use Rattle.sifv.specs.Slot.{encodeSlot, decodeSlot};
+ghost use Rattle.sifv.specs.Seen.{bare, kindIn, seen, shown, setItem};
+ghost use Rattle.sifv.specs.Slot.{singleOf, encodeSlot, decodeSlot};
+ghost use Rattle.sifv.specs.StoredForm.{storedOf};
 ghost use Rattle.vm.specs.RuntimeErr as Rule;
 ghost use Rattle.vm.specs.Operation as Operation;
 ghost use Rattle.vm.specs.Machine as Machine;
-ghost use Rattle.opc.specs.Record.{fieldsOf};
-ghost use Rattle.opc.specs.Fetch.{opOf};
 ghost use Rattle.opc.specs.declared.UnOpKind.the-variants.{Lneg, Nneg};
-ghost use Rattle.opc.specs.declared.Literal.the-variants as literal;
-ghost use Rattle.opc.specs.Shows.{ShowsLiteral};
+ghost use Rattle.opc.specs.Shows.{SingleIn, ShowsLiteral};
 ghost use Rattle.opc.specs.Fetched.{Entered, entryOf};
 ghost use Rattle.tables.specs.Tables.{Program, labelAt};
 ghost use Rattle.execute.specs.Programs.{programOf, Ready, jmpModel, jumpedOf, takenOf};
-ghost use Rattle.execute.specs.View.{given, binModel, unModel, poolOf, literalValue, InPool, regsOf, namesOf, view, onLoc, Reads, Loaded, Wrote, Named, steppedOf, Stepped, Neat, Canon, Holds, someOf, itemOf, updateOf};
+ghost use Rattle.execute.specs.View.{given, binModel, unModel, poolOf, recordAt, arrayAt, literalAt, InPool, regsOf, namesOf, view, onLoc, Reads, Loaded, Wrote, Named, steppedOf, Stepped, Neat, Canon, Holds, someOf, itemOf, updateOf};
 use opc::BinOpKind;
 use opc::JmpOpKind;
-use opc::Literal;
 use opc::Op;
 use opc::UnOpKind;
 use sifv::SifVal;
-
-// The machine's sizes (document 01, "Modules, leaves first" and "Numbers given for the state").
-pub const REGISTERS: usize = 96;
-
-pub const STACK: usize = 24;
 
 // ---- runtime_err.rs: a stop as its number and its details
 
@@ -493,7 +485,7 @@ fn put_item(program: &[u8], state: &mut [u8], at: usize, i: usize, k: usize)
 // An array whose items begin at entry first of the pool, over the slot at byte at.
 fn put_array(program: &[u8], state: &mut [u8], at: usize, len: u64, first: u64)
     requires { ⌜ (32768 ≤ length (now program)) × (at + 256 ≤ length (now state)) × InPool (poolOf (now program)) len first ⌝ }
-    ensures { λ _. ⌜ now (state .exit) ≡ splice (now (state .entry)) at (encodeSlot (some (literalValue (poolOf (now (program .entry))) (literal.Arr len first)))) ⌝ }
+    ensures { λ _. ⌜ now (state .exit) ≡ splice (now (state .entry)) at (encodeSlot (some (arrayAt (now (program .entry)) len first))) ⌝ }
 {
     lent::zero(state, at, 256);
     state[at] = 5;
@@ -507,31 +499,60 @@ fn put_array(program: &[u8], state: &mut [u8], at: usize, len: u64, first: u64)
     }
 }
 
-// A literal over the slot at byte at.
-fn put_literal(program: &[u8], state: &mut [u8], at: usize, val: Literal)
-    requires { ⌜ (32768 ≤ length (now program)) × (at + 256 ≤ length (now state)) × Formed (part (now state) at 256) × ShowsLiteral (poolOf (now program)) val (literalValue (poolOf (now program)) val) ⌝ }
-    ensures { λ _. ⌜ now (state .exit) ≡ splice (now (state .entry)) at (encodeSlot (some (literalValue (poolOf (now (program .entry))) val))) ⌝ }
+// The single value in record val, as it is stored.
+fn stored(program: &[u8], val: usize) -> sifv::Stored
+    requires { ⌜ (16384 ≤ length (now program)) × (val < 1024) × SingleIn (recordAt (now program) val .kind) (recordAt (now program) val .word) ⌝ }
+    ensures { λ r. ⌜ r ≡ storedOf (shown (singleOf (recordAt (now (program .entry)) val .kind) (recordAt (now (program .entry)) val .word))) ⌝ }
 {
-    match val {
-        Literal::One(v) => sifv::set(state, at, v),
-        Literal::Arr(len, first) => put_array(program, state, at, len, first),
-        Literal::Tab => sifv::set(state, at, SifVal::Tab(0)),
+    let kind = opc::kind_of(program, val);
+    sifv::Stored {
+        kind,
+        word: sifv::stored_word(kind, opc::word_of(program, val)),
     }
 }
 
-fn loadc(program: &[u8], state: &mut [u8], dest: usize, val: Literal) -> Did
-    requires { ⌜ (32768 ≤ length (now program)) × Neat (now state) × (dest < 96) × ShowsLiteral (poolOf (now program)) val (literalValue (poolOf (now program)) val) ⌝ }
-    ensures { λ r. ⌜ Wrote (now (state .entry)) (0 + dest * 256) (now (state .exit)) (Operation.Ok (some (literalValue (poolOf (now (program .entry))) val))) r ⌝ }
+// The array or the table in record val, over the slot at byte at.
+fn put_contents(program: &[u8], state: &mut [u8], at: usize, val: usize)
+    requires { ⌜ (32768 ≤ length (now program)) × (at + 256 ≤ length (now state)) × Formed (part (now state) at 256) × (val < 1024) × ShowsLiteral (poolOf (now program)) (recordAt (now program) val) (literalAt (now program) val) × (recordAt (now program) val .kind < 5 → ⊥) ⌝ }
+    ensures { λ _. ⌜ now (state .exit) ≡ splice (now (state .entry)) at (encodeSlot (some (literalAt (now (program .entry)) val))) ⌝ }
 {
-    put_literal(program, state, reg(dest), val);
+    if opc::kind_of(program, val) == 5 {
+        put_array(
+            program,
+            state,
+            at,
+            opc::len_of(program, val),
+            opc::word_of(program, val),
+        );
+        return;
+    }
+    sifv::set(state, at, SifVal::Tab(0));
+}
+
+// Both look at the kind, so that a single value is written without a call.
+fn loadc(program: &[u8], state: &mut [u8], dest: usize, val: usize) -> Did
+    requires { ⌜ (32768 ≤ length (now program)) × Neat (now state) × (dest < 96) × (val < 1024) × ShowsLiteral (poolOf (now program)) (recordAt (now program) val) (literalAt (now program) val) ⌝ }
+    ensures { λ r. ⌜ Wrote (now (state .entry)) (0 + dest * 256) (now (state .exit)) (Operation.Ok (some (literalAt (now (program .entry)) val))) r ⌝ }
+{
+    let at = reg(dest);
+    if opc::kind_of(program, val) < 5 {
+        sifv::put(state, at, stored(program, val));
+        return Did::Ok;
+    }
+    put_contents(program, state, at, val);
     Did::Ok
 }
 
-fn storec(program: &[u8], state: &mut [u8], val: Literal, name: usize) -> Did
-    requires { ⌜ (32768 ≤ length (now program)) × Neat (now state) × (name < 64) × ShowsLiteral (poolOf (now program)) val (literalValue (poolOf (now program)) val) ⌝ }
-    ensures { λ r. ⌜ Named (now (state .entry)) (now (state .exit)) (Operation.Ok (Operation.put (namesOf (now (state .entry))) name (some (literalValue (poolOf (now (program .entry))) val)))) r ⌝ }
+fn storec(program: &[u8], state: &mut [u8], val: usize, name: usize) -> Did
+    requires { ⌜ (32768 ≤ length (now program)) × Neat (now state) × (name < 64) × (val < 1024) × ShowsLiteral (poolOf (now program)) (recordAt (now program) val) (literalAt (now program) val) ⌝ }
+    ensures { λ r. ⌜ Named (now (state .entry)) (now (state .exit)) (Operation.Ok (Operation.put (namesOf (now (state .entry))) name (some (literalAt (now (program .entry)) val)))) r ⌝ }
 {
-    put_literal(program, state, slot(name), val);
+    let at = slot(name);
+    if opc::kind_of(program, val) < 5 {
+        sifv::put(state, at, stored(program, val));
+        return Did::Ok;
+    }
+    put_contents(program, state, at, val);
     Did::Ok
 }
 
@@ -630,9 +651,9 @@ fn update(state: &mut [u8], name: usize, i: u64, val: usize) -> Did
     if k != 5 {
         return Did::Err(no_array(k, name));
     }
-    let n = sifv::len_at(state, at);
-    if n <= i {
-        return Did::Err(index_out_of_bounds(name, i, n));
+    let len = sifv::len_at(state, at);
+    if len <= i {
+        return Did::Err(index_out_of_bounds(name, i, len));
     }
     let from = reg(val);
     if 5 <= sifv::kind_at(state, from) {

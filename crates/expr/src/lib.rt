@@ -194,13 +194,15 @@ fn params(
     requires { ⌜ ReadsAt (params n) (now contents) (now bodies) p (now out) ⌝ }
     ensures { λ r. ⌜ Goes (params n) (now (contents .entry)) (now (bodies .entry)) keep p (now (out .entry)) r (now (out .exit)) ⌝ }
 {
-    if n == 0 {
-        return p;
+    let mut q = p;
+    let mut more = n;
+    while 0 < more {
+        let a = expr_at(contents, bodies, keep, q, out);
+        let f = emit::fields_of(q.lbl, 19, 0, emit::prevreg(a.low), 0, 0, 0);
+        q = emit::push_at(keep, a, f, out);
+        more -= 1;
     }
-    let a = expr_at(contents, bodies, keep, p, out);
-    let f = emit::fields_of(p.lbl, 19, 0, emit::prevreg(a.low), 0, 0, 0);
-    let b = emit::push_at(keep, a, f, out);
-    params(n - 1, contents, bodies, keep, b, out)
+    q
 }
 
 pub fn fncallexpr(
@@ -336,16 +338,18 @@ fn table_items(
     requires { ⌜ ReadsAt (items n x) (now contents) (now bodies) p (now out) ⌝ }
     ensures { λ r. ⌜ Goes (items n x) (now (contents .entry)) (now (bodies .entry)) keep p (now (out .entry)) r (now (out .exit)) ⌝ }
 {
-    if n == 0 {
-        return p;
+    let mut q = p;
+    let mut more = n;
+    while 0 < more {
+        let at = q.body;
+        let key = bodies[at];
+        let i = emit::pass(q, 2, 1);
+        let a = expr_at(contents, bodies, keep, i, out);
+        let f = emit::fields_of(q.lbl, 21, 0, x, key, emit::prevreg(a.low), 0);
+        q = emit::push_at(keep, a, f, out);
+        more -= 1;
     }
-    let at = p.body;
-    let key = bodies[at];
-    let q = emit::pass(p, 2, 1);
-    let a = expr_at(contents, bodies, keep, q, out);
-    let f = emit::fields_of(p.lbl, 21, 0, x, key, emit::prevreg(a.low), 0);
-    let b = emit::push_at(keep, a, f, out);
-    table_items(n - 1, x, contents, bodies, keep, b, out)
+    q
 }
 
 fn match_table_assign(

@@ -93,45 +93,6 @@ pub fn copy(d: &mut [u8], at: usize, s: &[u8])
     }
 }
 
-// The n bytes from `from` on, written from `to` on, where `to` is not behind `from`: upwards.
-fn copy_up(d: &mut [u8], from: usize, to: usize, n: usize)
-    requires { ⌜ (from + n ≤ length (now d)) × (to ≤ from) ⌝ }
-    ensures { λ _. ⌜ now (d .exit) ≡ splice (now (d .entry)) to (part (now (d .entry)) from n) ⌝ }
-{
-    let mut i = 0;
-    while i < n {
-        d[to + i] = d[from + i];
-        i += 1;
-    }
-}
-
-// The same where `to` is not before `from`: downwards.
-fn copy_down(d: &mut [u8], from: usize, to: usize, n: usize)
-    requires { ⌜ (to + n ≤ length (now d)) × (from ≤ to) ⌝ }
-    ensures { λ _. ⌜ now (d .exit) ≡ splice (now (d .entry)) to (part (now (d .entry)) from n) ⌝ }
-{
-    let mut i = n;
-    while 0 < i {
-        i -= 1;
-        d[to + i] = d[from + i];
-    }
-}
-
-// The n bytes from `from` on, written from `to` on; the two may meet.
-pub fn copy_within(d: &mut [u8], from: usize, to: usize, n: usize)
-    requires { ⌜ (from + n ≤ length (now d)) × (to + n ≤ length (now d)) ⌝ }
-    ensures { λ _. ⌜ now (d .exit) ≡ splice (now (d .entry)) to (part (now (d .entry)) from n) ⌝ }
-{
-    if to < from {
-        copy_up(d, from, to, n);
-        return;
-    }
-    if from < to {
-        copy_down(d, from, to, n);
-        return;
-    }
-}
-
 // The n bytes from at on become 0.
 pub fn zero(d: &mut [u8], at: usize, n: usize)
     requires { ⌜ at + n ≤ length (now d) ⌝ }

@@ -5,11 +5,13 @@ use mathlib.Core.Bool.{true, false}
 use mathlib.Core.List.{List, _++_}
 use lib.Dec.{T}
 use lib.ListN.{length, drop}
+use Rattle.lent.specs.Bytes.{beBytes, splice}
 use Rattle.sifv.specs.Slot.{zeros}
+use Rattle.opc.specs.Op.{Code}
 use Rattle.ast.specs.Tree.{Stmts}
 use Rattle.ast.specs.Flat.{flat, entryBytes, bodyBytes}
 use Rattle.ast.specs.Limits.{numbersFit}
-use Rattle.tables.specs.ProgramBytes.{encodeProgram}
+use Rattle.tables.specs.ProgramBytes.{labelBytes, functionBytes, encodeProgram}
 use Rattle.compiler.specs.Lower.{lowerTree, refusal, programOf}
 use Rattle.compiler.specs.Within.{StmtsIn}
 use Rattle.emit.specs.declared.Low.{Low}
@@ -39,3 +41,11 @@ firstPass = record { reg = 0; count = 0; recs = 0; items = 0; refused = 0; decls
 
 abbrev pub secondPass : Low → Low
 secondPass d = record { reg = 0; count = 0; recs = d .recs; items = d .items; refused = 0; decls = false }
+
+-- and of the pass that writes the code alone
+abbrev pub onePass : Low
+onePass = record { reg = 0; count = 0; recs = 0; items = 0; refused = 0; decls = false }
+
+-- the tables of the code c, its count n and the code start s, written to b
+abbrev pub finished : Code → ℕ → ℕ → List ℕ → List ℕ
+finished c n s b = splice (splice (splice (splice b 32768 (labelBytes c)) 34816 (functionBytes c)) 34944 (beBytes 2 n)) 34946 (beBytes 2 s)

@@ -4,10 +4,10 @@ use mathlib.Core.Path.{_≡_, refl, sym, ap, _∙_}
 use mathlib.Core.Bool.{Bool, true, false, cond}
 use mathlib.Core.List.{List, [], _∷_, _++_, map}
 use native.Mathlib.Omega.{arith}
-use lib.ListN.{length, drop, length-append, length-replicate}
+use lib.ListN.{length, drop, replicate, length-append, length-replicate}
 use lib.Seq.{drop-at}
 use Rattle.lent.specs.Bytes.{beBytes, part, splice, concat}
-use Rattle.lent.specs.Parts.{length-splice, drop-splice}
+use Rattle.lent.specs.Parts.{length-splice, drop-splice, splice-none}
 use Rattle.sifv.specs.Slot.{zeros}
 use Rattle.opc.specs.Op.{Instr, op, Code}
 use Rattle.opc.specs.Record.{itemsOf, itemBytes, encodeInstr}
@@ -24,8 +24,8 @@ use Rattle.emit.specs.declared.Low.{Low}
 use Rattle.emit.specs.Run.{kept, itemCount, step, after, put, goes, write, wrote, Ready, Did}
 use Rattle.emit.specs.Laws.{length-items, length-record, length-put, goes-room, ready-did}
 use Rattle.emit.specs.Joins.{poolCount, Room, refused-is, wrote-is, written}
-use Rattle.lower.specs.Compile.{Cleared, Compiled, firstPass, secondPass}
-use Rattle.lower.specs.Passes.{Fresh, refused-first, Ended, ended}
+use Rattle.lower.specs.Compile.{Cleared, Compiled, firstPass, secondPass, onePass, finished}
+use Rattle.lower.specs.Passes.{Fresh, refused-first, Ended, ended, counts}
 use Rattle.lower.specs.Buffer.{pool-items, written-append, passed, passes-fields, passes-long, passes-labels, passes-functions, passes-records, program-fields, program-buffer}
 
 -- ---- what lies behind the buffer is untouched
@@ -78,6 +78,14 @@ items-append (i ∷ c) d = omega (arith, items-append c d)
 zero-more : (n : ℕ) → 0 + n ≡ n
 zero-more n = omega arith
 
+no-length : (c : Code) → length c ≡ 0 → c ≡ []
+no-length [] e = refl
+no-length (i ∷ c) e = absurd (omega (arith, e))
+
+-- zeros, whatever was there
+pub clears : (b : List ℕ) {d : List ℕ} → d ≡ splice b 0 (replicate 40960 0) → Cleared (drop 40960 b) d
+clears b q = record { zero = q ∙ ap (λ (n : ℕ). zeros 40960 ++ drop n b) (length-replicate {A = ℕ} 40960 0) }
+
 pub cleared-long : {rest b : List ℕ} → Cleared rest b → 40960 ≤ length b
 cleared-long {rest} z = omega (arith, ap length (z .zero), length-append (zeros 40960) rest, length-replicate {A = ℕ} 40960 0)
 
@@ -97,27 +105,36 @@ module _ (t : Stmts) (rest b₀ : List ℕ) (w : StmtsIn t) (f : length (flat t)
   pub first-ready : Ready firstPass b₀
   first-ready = record { registers = omega arith; pushed = omega arith; records = omega arith; pool = omega arith; room = zero-long }
 
+  pub one-ready : Ready onePass b₀
+  one-ready = record { registers = omega arith; pushed = omega arith; records = omega arith; pool = omega arith; room = zero-long }
+
+  -- a pass over the zeros: what lies behind is untouched
+  module _ (s d : Low) (b₁ : List ℕ) (did : Did (lowerTree t) s b₀ d b₁) where
+    pass-behind : Behind b₀ b₁
+    pass-behind = let a = wrote-behind (lowerTree t) s b₀ zero-long in record { size = ap length (did .buffer) ∙ a .size; rest = ap (drop 40960) (did .buffer) ∙ a .rest }
+
+    pub pass-long : 40960 ≤ length b₁
+    pass-long = omega (arith, pass-behind .size, zero-long)
+
+    pass-rest : drop 40960 b₁ ≡ rest
+    pass-rest = pass-behind .rest ∙ zero-behind
+
+    pub pass-cleared : (b₂ : List ℕ) → b₂ ≡ splice b₁ 0 (replicate 40960 0) → Cleared rest b₂
+    pass-cleared b₂ q = rw pass-rest at (clears b₁ q)
+
+  -- the first pass, then the second
+
   module _ (d : Low) (b₁ : List ℕ) (did : Did (lowerTree t) firstPass b₀ d b₁) where
-    -- the first pass gives the refusal
-    first-number : d .refused ≡ refusal (lowerTree t) 0 0
-    first-number = ap (λ (s : Low). s .refused) (did .state) ∙ refused-first (lowerTree t) firstPass refl (record { few = omega arith; room = omega (arith, all-items) })
-
-    first-behind : Behind b₀ b₁
-    first-behind = let a = wrote-behind (lowerTree t) firstPass b₀ zero-long in record { size = ap length (did .buffer) ∙ a .size; rest = ap (drop 40960) (did .buffer) ∙ a .rest }
-
-    pub refused-gives : (d .refused ≡ 0 → ⊥) → Compiled t rest (d .refused) b₁
-    refused-gives n = record { number = first-number; made = λ e. absurd (n e); behind = first-behind .rest ∙ zero-behind; long = omega (arith, first-behind .size, zero-long) }
-
-    module _ (o : d .refused ≡ 0) where
-      none-refused : refusal (lowerTree t) 0 0 ≡ 0
-      none-refused = sym first-number ∙ o
+    module _ (none-refused : refusal (lowerTree t) 0 0 ≡ 0) where
+      first-none : after (lowerTree t) firstPass .refused ≡ 0
+      first-none = refused-first (lowerTree t) firstPass refl (record { few = omega arith; room = omega (arith, all-items) }) ∙ none-refused
 
       few-instructions : length (pushed Decl (lowerTree t)) + length (pushed Main (lowerTree t)) ≤ 1024
       few-instructions = omega (arith, unrefused-length (lowerTree t) none-refused, length-append (pushed Decl (lowerTree t)) (pushed Main (lowerTree t)))
 
       first-ended : Ended (lowerTree t) firstPass d
       first-ended =
-          let e = ended (lowerTree t) firstPass (ap (λ (s : Low). s .refused) (sym (did .state)) ∙ o) in
+          let e = ended (lowerTree t) firstPass first-none in
           record { recs = ap (λ (s : Low). s .recs) (did .state) ∙ e .recs; items = ap (λ (s : Low). s .items) (did .state) ∙ e .items }
 
       pub second-ready : Ready (secondPass d) b₁
@@ -126,14 +143,14 @@ module _ (t : Stmts) (rest b₀ : List ℕ) (w : StmtsIn t) (f : length (flat t)
         pushed = omega arith;
         records = omega (arith, first-ended .recs, few-instructions);
         pool = omega (arith, first-ended .items, all-items);
-        room = omega (arith, first-behind .size, zero-long);
+        room = pass-long firstPass d b₁ did;
       }
 
       first-written : b₁ ≡ written b₀ 0 0 (pushed Decl (lowerTree t))
       first-written =
           did .buffer
           ∙ wrote-is (lowerTree t) firstPass b₀ (record { recs = omega (arith, few-instructions); items = omega (arith, all-items) }) zero-long
-          (ap (λ (s : Low). s .refused) (sym (did .state)) ∙ o)
+          first-none
 
       module _ (e : Low) (b₂ : List ℕ) (did₂ : Did (lowerTree t) (secondPass d) b₁ e b₂) where
         second-room : Room (lowerTree t) (secondPass d)
@@ -151,7 +168,7 @@ module _ (t : Stmts) (rest b₀ : List ℕ) (w : StmtsIn t) (f : length (flat t)
         second-written =
             let c = pushed Decl (lowerTree t) in
             did₂ .buffer
-            ∙ wrote-is (lowerTree t) (secondPass d) b₁ second-room (omega (arith, first-behind .size, zero-long)) second-none
+            ∙ wrote-is (lowerTree t) (secondPass d) b₁ second-room (pass-long firstPass d b₁ did) second-none
             ∙ ap (λ (n : ℕ). written b₁ n (d .items) (pushed Main (lowerTree t))) (first-ended .recs ∙ zero-more (length c))
             ∙ ap (λ (n : ℕ). written b₁ (length c) n (pushed Main (lowerTree t))) (first-ended .items ∙ zero-more (poolCount c))
             ∙ ap (λ (b : List ℕ). written b (length c) (poolCount c) (pushed Main (lowerTree t))) first-written
@@ -180,15 +197,14 @@ module _ (t : Stmts) (rest b₀ : List ℕ) (w : StmtsIn t) (f : length (flat t)
             }
 
         -- the whole
-        pub compiled-gives : (b₃ b₄ b₅ : List ℕ) → b₃ ≡ splice (splice b₂ 32768 (labelBytes (programOf (lowerTree t) .code))) 34816 (functionBytes (programOf (lowerTree t) .code))
-            → b₄ ≡ splice b₃ 34944 (beBytes 2 (e .recs)) → b₅ ≡ splice b₄ 34946 (beBytes 2 (d .recs)) → Compiled t rest 0 b₅
-        compiled-gives b₃ b₄ b₅ e₃ e₄ e₅ =
+        pub compiled-gives : (b₅ : List ℕ) → b₅ ≡ finished (programOf (lowerTree t) .code) (e .recs) (d .recs) b₂ → Compiled t rest 0 b₅
+        compiled-gives b₅ e₅ =
             let p = programOf (lowerTree t) in
             let s = length (pushed Decl (lowerTree t)) in
             let m : b₅ ≡ encodeProgram p ++ rest =
-            program-fields (p .code) rest few-code (tree-items t w f) s b₂ b₃ b₄ b₅ is-passed e₃
-            (e₄ ∙ ap (λ (n : ℕ). splice b₃ 34944 (beBytes 2 n)) second-recs)
-            (e₅ ∙ ap (λ (n : ℕ). splice b₄ 34946 (beBytes 2 n)) (first-ended .recs ∙ zero-more s))
+            program-fields (p .code) rest few-code (tree-items t w f) s b₂ _ _ b₅ is-passed refl
+            (ap (λ (n : ℕ). splice (splice (splice b₂ 32768 (labelBytes (p .code))) 34816 (functionBytes (p .code))) 34944 (beBytes 2 n)) second-recs)
+            (e₅ ∙ ap (λ (n : ℕ). finished (p .code) (e .recs) n b₂) (first-ended .recs ∙ zero-more s))
             ∙ sym (program-buffer p rest) in
             let k = program-length p (lowered-within t p w f (ap (λ (k : ℕ). decide k p) none-refused) .0) in
             record {
@@ -197,3 +213,51 @@ module _ (t : Stmts) (rest b₀ : List ℕ) (w : StmtsIn t) (f : length (flat t)
               behind = ap (drop 40960) m ∙ drop-at (encodeProgram p) rest 40960 k;
               long = omega (arith, ap length m, length-append (encodeProgram p) rest, k);
             }
+
+  -- ---- the code alone: where as many records are written as instructions are pushed, there is no declaration, and the first pass would write nothing
+
+  module _ (e : Low) (b₂ : List ℕ) (did : Did (lowerTree t) onePass b₀ e b₂) where
+    pub one-number : e .refused ≡ refusal (lowerTree t) 0 0
+    one-number = ap (λ (s : Low). s .refused) (did .state) ∙ refused-first (lowerTree t) onePass refl (record { few = omega arith; room = omega (arith, all-items) })
+
+    pub one-refused : (e .refused ≡ 0 → ⊥) → Compiled t rest (e .refused) b₂
+    one-refused n = record { number = one-number; made = λ z. absurd (n z); behind = pass-rest onePass e b₂ did; long = pass-long onePass e b₂ did }
+
+    module _ (o : e .refused ≡ 0) (h : e .recs ≡ e .count) where
+      one-none : after (lowerTree t) onePass .refused ≡ 0
+      one-none = ap (λ (s : Low). s .refused) (sym (did .state)) ∙ o
+
+      no-declaration : pushed Decl (lowerTree t) ≡ []
+      no-declaration =
+          no-length (pushed Decl (lowerTree t))
+          (omega (arith, h, ap (λ (s : Low). s .recs) (did .state), ap (λ (s : Low). s .count) (did .state), counts (lowerTree t) onePass one-none, ended (lowerTree t) onePass one-none .recs))
+
+      abbrev d : Low
+      d = after (lowerTree t) firstPass
+
+      abbrev b₁ : List ℕ
+      b₁ = wrote (lowerTree t) firstPass b₀
+
+      did₁ : Did (lowerTree t) firstPass b₀ d b₁
+      did₁ = record { state = refl; buffer = refl }
+
+      n : refusal (lowerTree t) 0 0 ≡ 0
+      n = sym one-number ∙ o
+
+      none-written : d .recs ≡ 0
+      none-written = first-ended d b₁ did₁ n .recs ∙ ap (λ (c : Code). 0 + length c) no-declaration
+
+      no-items : d .items ≡ 0
+      no-items = first-ended d b₁ did₁ n .items ∙ ap (λ (c : Code). 0 + poolCount c) no-declaration
+
+      still-zero : b₁ ≡ b₀
+      still-zero = first-written d b₁ did₁ n ∙ ap (written b₀ 0 0) no-declaration ∙ splice-none (splice b₀ 16384 []) 0 ∙ splice-none b₀ 16384
+
+      did₂ : Did (lowerTree t) (secondPass d) b₁ e b₂
+      did₂ = rw (none-written, no-items, still-zero) did
+
+      pub one-asks : Asked (programOf (lowerTree t) .code) (e .recs) b₂
+      one-asks = tables-ask d b₁ did₁ n e b₂ did₂
+
+      pub one-gives : (b₅ : List ℕ) → b₅ ≡ finished (programOf (lowerTree t) .code) (e .recs) 0 b₂ → Compiled t rest 0 b₅
+      one-gives b₅ q = compiled-gives d b₁ did₁ n e b₂ did₂ b₅ (q ∙ ap (λ (x : ℕ). finished (programOf (lowerTree t) .code) (e .recs) x b₂) (sym none-written))

@@ -26,6 +26,7 @@ use Rattle.compiler.specs.ReadWithin.{read-within}
 use Rattle.compiler.specs.Accepted.{lowered-within}
 use Rattle.lower.specs.LowerCall.{over, Answered, answered, lowerMade, lowerRead, lowerCall}
 use Rattle.lower.specs.Compile.{Spelt, Cleared, Compiled}
+use Rattle.lower.specs.CompileLaws.{clears}
 
 -- ---- the parts of a file that is read, as slices
 
@@ -85,7 +86,7 @@ module _ (f buf : List ℕ) where
 
     -- the cleared buffer is one of zeros, with what lies behind
     pub cleared : (b : List ℕ) → b ≡ splice buf 0 (replicate 40960 0) → Cleared (drop 40960 buf) b
-    cleared b q = record { zero = q ∙ ap (λ (n : ℕ). zeros 40960 ++ drop n buf) (length-replicate {A = ℕ} 40960 0) }
+    cleared b q = clears buf q
 
     module _ (t : Stmts) (e : readTree f ≡ Tree t) where
       tree-gives : (k : ℕ) → refusal (lowerTree t) 0 0 ≡ k → lowerCall f buf ≡ lowerMade (decide k (programOf (lowerTree t))) buf

@@ -1,4 +1,4 @@
--- The two passes over a tree: the first gives the refusal, and after each the records and the items are counted. Assumes nothing.
+-- Passes over a tree, for the declarations and for the code: each gives the refusal, and after each the records and the items are counted. Assumes nothing.
 use Prim.Native.Nat.{ℕ, zero, suc, _+_, _*_, _≤_, _<_}
 use mathlib.Core.Path.{_≡_, refl, sym, ap, _∙_}
 use mathlib.Core.Bool.{Bool, true, false, cond, _||_, _&&_}
@@ -12,7 +12,7 @@ use Rattle.lent.specs.Parts.{length-splice, splice-append, splice-comm}
 use Rattle.opc.specs.Op.{Instr, Code}
 use Rattle.tables.specs.ProgramBytes.{recordBytes, poolBytes}
 use Rattle.tables.specs.ProgramLaws.{items}
-use Rattle.compiler.specs.Lower.{Decl, Main, Place, Event, Reg, Push, Below, refusal, only, pushed, programOf}
+use Rattle.compiler.specs.Lower.{Section, Decl, Main, Place, Event, Reg, Push, Below, refusal, only, pushed, programOf}
 use Rattle.compiler.specs.Accepted.{unrefused-length}
 use Rattle.emit.specs.declared.Low.{Low}
 use Rattle.emit.specs.Run.{kept, refuse, full, counted, itemCount, step, after, wrote, Ready, Did}
@@ -125,3 +125,34 @@ ended (Reg ∷ es) s z =
     record { recs = d .recs; items = d .items }
 ended (Push w i ∷ es) s z = ends-push w i es s (λ t. ended es t) (refused-stays (Push w i ∷ es) s z) (is (full (kept (s .decls) (w .section)) s (itemCount i))) z
 ended (Below ∷ es) s z = absurd (omega (arith, z, ap (λ (q : Low). after es q .refused) (below-in s (refused-stays (Below ∷ es) s z)), stays es 6 s (omega arith)))
+
+-- ---- the count of a pass: the instructions of both sections
+
+abbrev Counts : List Event → Type 0
+Counts es = (t : Low) → after es t .refused ≡ 0 → after es t .count ≡ t .count + (length (pushed Decl es) + length (pushed Main es))
+
+counted-one : (s : Section) (i : Instr) (es : List Event) → length (only Decl s i (pushed Decl es)) + length (only Main s i (pushed Main es)) ≡ suc (length (pushed Decl es) + length (pushed Main es))
+counted-one Decl i es = omega arith
+counted-one Main i es = omega arith
+
+counts-reg : (es : List Event) (s : Low) → Counts es → s .refused ≡ 0 → Is (leb 96 (s .reg)) → after es (step Reg s) .refused ≡ 0 → after es (step Reg s) .count ≡ s .count + (length (pushed Decl es) + length (pushed Main es))
+counts-reg es s ih o (yes e) z = stopped es s (ap (λ (q : Low). after es q .refused) (sym (reg-over s o e)) ∙ z)
+counts-reg es s ih o (no e) z =
+    let t : Low = record { reg = s .reg + 1; count = s .count; recs = s .recs; items = s .items; refused = s .refused; decls = s .decls } in
+    let q = reg-in s o e in
+    ap (λ (x : Low). after es x .count) q ∙ ih t (ap (λ (x : Low). after es x .refused) (sym q) ∙ z)
+
+counts-push : (w : Place) (i : Instr) (es : List Event) (s : Low) → Counts es → s .refused ≡ 0 → Is (full (kept (s .decls) (w .section)) s (itemCount i))
+    → after es (step (Push w i) s) .refused ≡ 0 → after es (step (Push w i) s) .count ≡ s .count + (length (pushed Decl (Push w i ∷ es)) + length (pushed Main (Push w i ∷ es)))
+counts-push w i es s ih o (yes e) z = stopped es s (ap (λ (q : Low). after es q .refused) (sym (push-full-step w i s o e)) ∙ z)
+counts-push w i es s ih o (no e) z =
+    let k = kept (s .decls) (w .section) in
+    let q = push-in w i s o e in
+    let d = ih (counted k s (itemCount i)) (ap (λ (x : Low). after es x .refused) (sym q) ∙ z) in
+    omega (arith, ap (λ (x : Low). after es x .count) q, d, counted-count k s (itemCount i), counted-one (w .section) i es)
+
+pub counts : (es : List Event) (s : Low) → after es s .refused ≡ 0 → after es s .count ≡ s .count + (length (pushed Decl es) + length (pushed Main es))
+counts [] s z = omega arith
+counts (Reg ∷ es) s z = counts-reg es s (λ t. counts es t) (refused-stays (Reg ∷ es) s z) (is (leb 96 (s .reg))) z
+counts (Push w i ∷ es) s z = counts-push w i es s (λ t. counts es t) (refused-stays (Push w i ∷ es) s z) (is (full (kept (s .decls) (w .section)) s (itemCount i))) z
+counts (Below ∷ es) s z = absurd (omega (arith, z, ap (λ (q : Low). after es q .refused) (below-in s (refused-stays (Below ∷ es) s z)), stays es 6 s (omega arith)))

@@ -1,43 +1,81 @@
 // Lowering of a tree file to a program buffer: compiler.rs, `compile`, and the call `lower`.
 ghost use mathlib.Core.Path.{_≡_};
 ghost use mathlib.Core.List.{List};
-ghost use Prim.Native.Nat.{ℕ};
+ghost use Prim.Native.Nat.{ℕ, _≤_};
+ghost use lib.ListN.{length};
+ghost use Rattle.lent.specs.Bytes.{part};
+ghost use Rattle.sifv.specs.Slot.{zeros};
+ghost use Rattle.opc.specs.Op.{Code};
+ghost use Rattle.tables.specs.Entries.{Records};
+ghost use Rattle.compiler.specs.Lower.{lowerTree, refusal};
 ghost use Rattle.ast.specs.Tree.{Stmts};
 ghost use Rattle.ast.specs.File.{Tree, readTree};
 ghost use Rattle.ast.specs.Answer.{answerOf};
 ghost use Rattle.lower.specs.LowerCall.{answered, lowerCall};
-ghost use Rattle.lower.specs.Compile.{Spelt, Cleared, Compiled};
+ghost use Rattle.lower.specs.Compile.{Spelt, Cleared, Compiled, finished};
 
-// The program of a tree in a buffer of zeros: 0, or 6 or 7. The first pass writes the declarations, the second the code.
+// The tables of the n records, their count and the code start.
+fn finish(program: &mut [u8], n: usize, start: usize)
+    requires { ⌜ (40960 ≤ length (now program)) × (n ≤ 1024) × (part (now program) 32768 2048 ≡ zeros 2048) × (part (now program) 34816 128 ≡ zeros 128) ⌝ }
+    requires { ⌜ ((cs : Code) × Records cs n (now program)) ⌝ }
+    ensures { λ _. ⌜ ((cs : Code) → Records cs n (now (program .entry)) → now (program .exit) ≡ finished cs n start (now (program .entry))) ⌝ }
+{
+    tables::compute(program, n);
+    lent::put_u16(program, 34944, n as u64);
+    lent::put_u16(program, 34946, start as u64);
+}
+
+// A tree with declarations, which is not refused: the first pass writes them, the second the code.
+fn compile_both(entries: &[u8], bodies: &[u8], program: &mut [u8])
+    requires { ⌜ ((t : Stmts) × Spelt t (now entries) (now bodies) × (refusal (lowerTree t) 0 0 ≡ 0)) ⌝ }
+    requires { ⌜ ((rest : List ℕ) × Cleared rest (now program)) ⌝ }
+    ensures { λ _. ⌜ ((t : Stmts) (rest : List ℕ) → Spelt t (now (entries .entry)) (now (bodies .entry)) → refusal (lowerTree t) 0 0 ≡ 0 → Cleared rest (now (program .entry)) → Compiled t rest 0 (now (program .exit))) ⌝ }
+{
+    let decls = emit::Low {
+        reg: 0,
+        decls: true,
+        count: 0,
+        recs: 0,
+        items: 0,
+        refused: 0,
+    };
+    let d = stmt::lower_tree(entries, bodies, decls, program);
+    let code = emit::Low {
+        reg: 0,
+        decls: false,
+        count: 0,
+        recs: d.recs,
+        items: d.items,
+        refused: 0,
+    };
+    let c = stmt::lower_tree(entries, bodies, code, program);
+    finish(program, c.recs, d.recs);
+}
+
+// The program of a tree in a buffer of zeros: 0, or 6 or 7. Where all instructions are code, one pass writes them.
 fn compile(entries: &[u8], bodies: &[u8], program: &mut [u8]) -> u64
     requires { ⌜ ((t : Stmts) × Spelt t (now entries) (now bodies)) ⌝ }
     requires { ⌜ ((rest : List ℕ) × Cleared rest (now program)) ⌝ }
     ensures { λ r. ⌜ ((t : Stmts) (rest : List ℕ) → Spelt t (now (entries .entry)) (now (bodies .entry)) → Cleared rest (now (program .entry)) → Compiled t rest r (now (program .exit))) ⌝ }
 {
-    let decls = emit::Low {
+    let alone = emit::Low {
         reg: 0,
+        decls: false,
         count: 0,
         recs: 0,
         items: 0,
         refused: 0,
-        decls: true,
     };
-    let d = stmt::lower_tree(entries, bodies, decls, program);
-    if d.refused != 0 {
-        return d.refused;
+    let c = stmt::lower_tree(entries, bodies, alone, program);
+    if c.refused != 0 {
+        return c.refused;
     }
-    let code = emit::Low {
-        reg: 0,
-        count: 0,
-        recs: d.recs,
-        items: d.items,
-        refused: 0,
-        decls: false,
-    };
-    let c = stmt::lower_tree(entries, bodies, code, program);
-    tables::compute(program, c.recs);
-    lent::put_u16(program, 34944, c.recs as u64);
-    lent::put_u16(program, 34946, d.recs as u64);
+    if c.recs as u64 == c.count {
+        finish(program, c.recs, 0);
+        return 0;
+    }
+    lent::clear(program, 40960);
+    compile_both(entries, bodies, program);
     0
 }
 

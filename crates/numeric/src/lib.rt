@@ -19,7 +19,7 @@ const NAN: u64 = 0x7ff8_0000_0000_0000;
 
 // The index from a number: a NaN and a negative number give 0, a fraction is cut, and 2^64 and
 // above give 2^64 - 1.
-pub fn index_of(x: f64) -> u64
+fn cut(x: f64) -> u64
     ensures { λ r. ⌜ r ≡ indexOf x ⌝ }
 {
     if x > -1.0 {
@@ -29,6 +29,19 @@ pub fn index_of(x: f64) -> u64
         return 18446744073709551615;
     }
     0
+}
+
+// The same. A whole number below 2^32 stands in the last digits of its sum with 2^52, and most
+// indices are such. The 0 is added for the compiler: x itself is then not taken apart, and is
+// loaded as one.
+pub fn index_of(x: f64) -> u64
+    ensures { λ r. ⌜ r ≡ indexOf x ⌝ }
+{
+    let n = bits_of(x + 4503599627370496.0) % 4294967296;
+    if n as f64 == x {
+        return n;
+    }
+    cut(x + 0.0)
 }
 
 // The bit pattern of a number, with one pattern for every NaN. The second fact is for callers: it

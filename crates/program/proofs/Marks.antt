@@ -11,7 +11,8 @@ use lib.ListN.{length, getD, set, length-set}
 use lib.Seq.{getD-set-same, getD-set-other}
 use borrow.Author.Tests.{leb-true, eqb-true, eqb-false}
 use Rattle.sifv.specs.Layout.{and-left, and-right}
-use Rattle.program.specs.Fits.{fitsAs, recordAt, recordOf, lblOf, nameOf, marked}
+use Rattle.records.specs.Fits.{fitsAs, recordAt, recordOf}
+use Rattle.program.specs.Marked.{lblOf, nameOf, marked}
 
 -- ---- one entry
 

@@ -20,7 +20,8 @@ use Rattle.opc.specs.RecordRange.{AllSome, when-all, guard-all, with-all}
 use Rattle.tables.specs.Tables.{Program, declares}
 use Rattle.tables.specs.ProgramBytes.{decodeCode, tablesOk, decodeProgram}
 use Rattle.program.specs.Held.{isSome}
-use Rattle.program.specs.Fits.{scan, recordAt, recordOf, pooled, taken, poolFits, labelEntry, functionEntry, sameTable}
+use Rattle.records.specs.Fits.{scan, recordAt, recordOf, pooled, taken, poolFits}
+use Rattle.program.specs.Marked.{labelEntry, functionEntry, sameTable}
 use Rattle.program.proofs.Records.{is-when, is-with, is-guard, is-instr, instr-all}
 use Rattle.program.proofs.Stored.{Spelt, labels-same, functions-same}
 

@@ -24,7 +24,7 @@ use Rattle.opc.specs.Fetched.{items-law}
 use Rattle.opc.specs.RecordRange.{AllSome, when-all, guard-all, with-all}
 use Rattle.tables.specs.Tables.{declares}
 use Rattle.program.specs.Held.{isSome}
-use Rattle.program.specs.Fits.{scan, limitTable, noKind, limitsOf, operandsFit, kindFits, wordFits, singleMost, literalFits, fitsAs, recordFits, entryFits, entryAt, entriesFit, pooledAs, takenAs, pooled, taken}
+use Rattle.records.specs.Fits.{scan, limitTable, noKind, limitsOf, operandsFit, kindFits, wordFits, singleMost, literalFits, fitsAs, recordFits, entryFits, entryAt, entriesFit, pooledAs, takenAs, pooled, taken}
 
 -- ---- whether there is a result
 

@@ -16,8 +16,9 @@ use Rattle.lent.specs.Same.{eq-same, ne-same}
 use Rattle.opc.specs.Op.{label, op, Code}
 use Rattle.tables.specs.Tables.{declares, entered, labelAt, declared, functionAt}
 use Rattle.tables.specs.ProgramBytes.{tabulate, each, indexWord, labelBytes, functionBytes}
-use Rattle.program.specs.Fits.{scan, lblOf, nameOf, isFn, enters, marked, labelEntry, functionEntry, sameTable}
-use Rattle.program.proofs.Scan.{scan-same}
+use Rattle.records.specs.Fits.{scan}
+use Rattle.program.specs.Marked.{lblOf, nameOf, isFn, enters, marked, labelEntry, functionEntry, sameTable}
+use Rattle.records.proofs.Scan.{scan-same}
 
 -- ---- a table in its bytes
 

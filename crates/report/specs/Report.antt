@@ -1,4 +1,4 @@
--- The report of a run: document 01, "Running"; layout: docs/FORMATS.md, "Report". Definitions only.
+-- The report of a run: document 01, "Running"; layout: docs/FORMATS.md, "Report of a run". Definitions only.
 use Prim.Native.Nat.{ℕ, suc, _-_, _^_}
 use mathlib.Core.List.{List, [], _∷_, _++_}
 use lib.IntN.{ℤ, pos, negsuc}

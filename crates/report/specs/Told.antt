@@ -1,4 +1,4 @@
--- The report's bytes as they are written, and that they are the model's.
+-- Laws of the report's fields: written one behind the other; for an answer of the model they are its report.
 -- Assumes nothing.
 use mathlib.Core.Path.{_≡_, refl, sym, ap, ap₂, _∙_}
 use mathlib.Core.Bool.{Bool, true, false, cond}
@@ -21,15 +21,7 @@ use Rattle.run.specs.Runs.{Answers, done, stopped, spent}
 use Rattle.run.specs.declared.Answer.{Answer as GivenAnswer}
 use Rattle.run.specs.declared.Answer.the-variants as given-answer
 use Rattle.report.specs.Report.{signedBytes, report}
-
--- `line` on numbers
-abbrev pub lineOf : ℕ → ℕ → ℤ
-lineOf start at = cond (leb start (suc at)) (pos (suc at - start)) (negsuc (start - (at + 2)))
-
--- the fields one after the other
-unfoldable pub fieldBytes : ℕ → ℕ → GivenErr → ℕ → List ℕ
-fieldBytes a l e k =
-    beBytes 1 a ++ (beBytes 1 (e .number) ++ (zeros 6 ++ (beBytes 8 l ++ (beBytes 8 (e .a) ++ (beBytes 8 (e .b) ++ (beBytes 8 (e .c) ++ beBytes 8 k))))))
+use Rattle.report.specs.Fields.{lineOf, fieldBytes, noStop, told}
 
 -- ---- the line: the difference, or what is left of 2^64
 
@@ -49,7 +41,7 @@ next b s t n l p q =
 
 pub fields-written : (b : List ℕ) (a l : ℕ) (g : GivenErr) (k : ℕ) {b₁ b₂ b₃ b₄ b₅ b₆ b₇ b₈ : List ℕ} → b₁ ≡ splice b 0 (beBytes 1 a) → b₂ ≡ splice b₁ 1 (beBytes 1 (g .number))
     → b₃ ≡ splice b₂ 2 (replicate 6 0) → b₄ ≡ splice b₃ 8 (beBytes 8 l) → b₅ ≡ splice b₄ 16 (beBytes 8 (g .a)) → b₆ ≡ splice b₅ 24 (beBytes 8 (g .b))
-    → b₇ ≡ splice b₆ 32 (beBytes 8 (g .c)) → b₈ ≡ splice b₇ 40 (beBytes 8 k) → b₈ ≡ fieldBytes a l g k ++ drop 48 b
+    → b₇ ≡ splice b₆ 32 (beBytes 8 (g .c)) → b₈ ≡ splice b₇ 40 (beBytes 8 k) → b₈ ≡ fieldBytes a (beBytes 8 l) g k ++ drop 48 b
 unfolding fieldBytes
 fields-written b a l g k e1 e2 e3 e4 e5 e6 e7 e8 =
     let s2 = beBytes 1 a ++ beBytes 1 (g .number) in
@@ -87,48 +79,36 @@ number-byte NotSingle = refl
 number-byte StackFull = refl
 number-byte KeysFull = refl
 
-abbrev pub noStop : GivenErr
-noStop = record { number = 0; a = 0; b = 0; c = 0 }
-
-is-done : {a : Answer} {g : GivenAnswer} → Answers a g → g ≡ given-answer.Done → a ≡ Done
-is-done (done f) q = refl
-is-done (stopped f) q = let z : _≡_ {A = ℕ} 0 1 = cc in absurd (omega arith)
-is-done (spent f) q = let z : _≡_ {A = ℕ} 0 1 = cc in absurd (omega arith)
-
-is-spent : {a : Answer} {g : GivenAnswer} → Answers a g → g ≡ given-answer.Spent → a ≡ Spent
-is-spent (done f) q = let z : _≡_ {A = ℕ} 0 1 = cc in absurd (omega arith)
-is-spent (stopped f) q = let z : _≡_ {A = ℕ} 0 1 = cc in absurd (omega arith)
-is-spent (spent f) q = refl
-
 module _ (p : Program) (s : State) (k : ℕ) where
-  stop-fields : (e : RuntimeErr) (l : ℕ) → beBytes 8 l ≡ signedBytes (line p (s .machine)) → fieldBytes 1 l (given e) k ≡ report p (Stopped e) s k
+  stop-fields : (e : RuntimeErr) → fieldBytes 1 (signedBytes (line p (s .machine))) (given e) k ≡ report p (Stopped e) s k
   unfolding fieldBytes
-  stop-fields e l h =
+  stop-fields e =
       let d = details e in
-      ap₂ (λ (x y : List ℕ). 1 ∷ (x ++ (zeros 6 ++ (y ++ (beBytes 8 (getD d 0 0) ++ (beBytes 8 (getD d 1 0) ++ (beBytes 8 (getD d 2 0) ++ beBytes 8 k))))))) (number-byte e) h
+      ap (λ (x : List ℕ). 1 ∷ (x ++ (zeros 6 ++ (signedBytes (line p (s .machine)) ++ (beBytes 8 (getD d 0 0) ++ (beBytes 8 (getD d 1 0) ++ (beBytes 8 (getD d 2 0) ++ beBytes 8 k))))))) (number-byte e)
 
-  module _ (rest : List ℕ) {a : Answer} {g : GivenAnswer} (h : Answers a g) {b' : List ℕ} where
-    -- without a stop: its fields are those of x
-    told-plain : (x : Answer) (n : ℕ) {y : GivenErr} → fieldBytes n 0 noStop k ≡ report p x s k → a ≡ x → y ≡ noStop → b' ≡ fieldBytes n 0 y k ++ rest → b' ≡ report p a s k ++ rest
-    told-plain x n f q z e = e ∙ ap (λ (y : GivenErr). fieldBytes n 0 y k ++ rest) z ∙ ap (λ (i : List ℕ). i ++ rest) (f ∙ ap (λ (y : Answer). report p y s k) (sym q))
+  done-fields : fieldBytes 0 (signedBytes (pos 0)) noStop k ≡ report p Done s k
+  unfolding fieldBytes
+  done-fields = refl
 
-    pub told-done : g ≡ given-answer.Done → {x : GivenErr} → x ≡ noStop → b' ≡ fieldBytes 0 0 x k ++ rest → b' ≡ report p a s k ++ rest
-    unfolding fieldBytes
-    told-done q = told-plain Done 0 refl (is-done h q)
+  spent-fields : fieldBytes 2 (signedBytes (pos 0)) noStop k ≡ report p Spent s k
+  unfolding fieldBytes
+  spent-fields = refl
 
-    pub told-spent : g ≡ given-answer.Spent → {x : GivenErr} → x ≡ noStop → b' ≡ fieldBytes 2 0 x k ++ rest → b' ≡ report p a s k ++ rest
-    unfolding fieldBytes
-    told-spent q = told-plain Spent 2 refl (is-spent h q)
+  -- for an answer of the model, what is told is the model's report
+  pub told-report : {a : Answer} {g : GivenAnswer} → Answers a g → {start at : ℕ} → p .codeStart ≡ start → s .machine .pos ≡ at → told start g at k ≡ report p a s k
+  told-report (done f) {start} {at} u v = ap (λ (y : GivenAnswer). told start y at k) f ∙ done-fields
+  told-report (stopped {e = e} f) {start} {at} u v =
+      ap (λ (y : GivenAnswer). told start y at k) f ∙ ap₂ (λ (i j : ℕ). fieldBytes 1 (signedBytes (lineOf i j)) (given e) k) (sym u) (sym v) ∙ stop-fields e
+  told-report (spent f) {start} {at} u v = ap (λ (y : GivenAnswer). told start y at k) f ∙ spent-fields
 
-    pub told-stopped : {x : GivenErr} → g ≡ given-answer.Stopped x → {start at : ℕ} (l : ℕ) → p .codeStart ≡ start → s .machine .pos ≡ at → beBytes 8 l ≡ signedBytes (lineOf start at)
-        → b' ≡ fieldBytes 1 l x k ++ rest → b' ≡ report p a s k ++ rest
-    told-stopped {x} q l u v w e = go h
-      where
-        go : {a : Answer} → Answers a g → b' ≡ report p a s k ++ rest
-        go (done f) = let z : _≡_ {A = ℕ} 0 1 = cc in absurd (omega arith)
-        go (stopped {e = y} f) =
-            let z : x ≡ given y = cc in
-            e
-            ∙ ap (λ (i : GivenErr). fieldBytes 1 l i k ++ rest) z
-            ∙ ap (λ (i : List ℕ). i ++ rest) (stop-fields y l (w ∙ ap₂ (λ (i j : ℕ). signedBytes (lineOf i j)) (sym u) (sym v)))
-        go (spent f) = let z : _≡_ {A = ℕ} 0 1 = cc in absurd (omega arith)
+-- ---- the fields of each answer
+
+module _ (start at k : ℕ) (rest : List ℕ) {g : GivenAnswer} {b' : List ℕ} where
+  pub told-done : g ≡ given-answer.Done → {x : GivenErr} → x ≡ noStop → b' ≡ fieldBytes 0 (beBytes 8 0) x k ++ rest → b' ≡ told start g at k ++ rest
+  told-done q z e = e ∙ ap (λ (y : GivenErr). fieldBytes 0 (beBytes 8 0) y k ++ rest) z ∙ ap (λ (y : GivenAnswer). told start y at k ++ rest) (sym q)
+
+  pub told-spent : g ≡ given-answer.Spent → {x : GivenErr} → x ≡ noStop → b' ≡ fieldBytes 2 (beBytes 8 0) x k ++ rest → b' ≡ told start g at k ++ rest
+  told-spent q z e = e ∙ ap (λ (y : GivenErr). fieldBytes 2 (beBytes 8 0) y k ++ rest) z ∙ ap (λ (y : GivenAnswer). told start y at k ++ rest) (sym q)
+
+  pub told-stopped : {x : GivenErr} → g ≡ given-answer.Stopped x → (l : ℕ) → beBytes 8 l ≡ signedBytes (lineOf start at) → b' ≡ fieldBytes 1 (beBytes 8 l) x k ++ rest → b' ≡ told start g at k ++ rest
+  told-stopped {x} q l w e = e ∙ ap (λ (y : List ℕ). fieldBytes 1 y x k ++ rest) w ∙ ap (λ (y : GivenAnswer). told start y at k ++ rest) (sym q)

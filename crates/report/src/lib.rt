@@ -4,11 +4,8 @@ ghost use mathlib.Core.List.{_++_};
 ghost use Prim.Native.Nat.{_≤_};
 ghost use lib.ListN.{length, drop};
 ghost use Rattle.lent.specs.Bytes.{beBytes};
-ghost use Rattle.tables.specs.Tables.{Program};
-ghost use Rattle.vm.specs.Machine as Machine;
-ghost use Rattle.run.specs.Runs.{Answers};
-ghost use Rattle.report.specs.Report.{report, signedBytes};
-ghost use Rattle.report.specs.Told.{lineOf, fieldBytes};
+ghost use Rattle.report.specs.Report.{signedBytes};
+ghost use Rattle.report.specs.Fields.{lineOf, fieldBytes, told};
 use execute::RuntimeErr;
 use run::Answer;
 
@@ -22,7 +19,7 @@ fn line(start: u64, pos: u64) -> u64
 
 fn put_fields(out: &mut [u8], answer: u64, line: u64, e: RuntimeErr, took: u64)
     requires { ⌜ 48 ≤ length (now out) ⌝ }
-    ensures { λ _. ⌜ now (out .exit) ≡ fieldBytes answer line e took ++ drop 48 (now (out .entry)) ⌝ }
+    ensures { λ _. ⌜ now (out .exit) ≡ fieldBytes answer (beBytes 8 line) e took ++ drop 48 (now (out .entry)) ⌝ }
 {
     lent::put_u8(out, 0, answer);
     lent::put_u8(out, 1, e.number);
@@ -48,7 +45,7 @@ fn no_stop() -> RuntimeErr
 // What a run of a program that starts at `start` came to at a position, after so many steps.
 pub fn write_report(out: &mut [u8], start: u64, answer: Answer, pos: usize, took: u64)
     requires { ⌜ (48 ≤ length (now out)) × (start ≤ 1024) × (pos ≤ 1024) ⌝ }
-    ensures { λ _. ⌜ ((p : Program) (a : Machine.Answer) (s : Machine.State) → Answers a answer → p .codeStart ≡ start → s .machine .pos ≡ pos → now (out .exit) ≡ report p a s took ++ drop 48 (now (out .entry))) ⌝ }
+    ensures { λ _. ⌜ now (out .exit) ≡ told start answer pos took ++ drop 48 (now (out .entry)) ⌝ }
 {
     match answer {
         Answer::Done => put_fields(out, 0, 0, no_stop(), took),

@@ -8,15 +8,12 @@ ghost use mathlib.Core.Bool.{cond, _&&_};
 ghost use mathlib.Core.List.{[], _++_};
 ghost use lib.Dec.{leb, ltb};
 ghost use lib.ListN.{length, getD, set};
-ghost use Rattle.sifv.specs.Value.{lookup, One, Num, Bl};
+ghost use Rattle.sifv.specs.Value.{One, Num, Bl};
 ghost use Rattle.lent.specs.Bytes.{part, splice};
 ghost use Rattle.sifv.specs.Slot.{zeros, kindOf, wordOf, singleOf, singleOk, singlesOk, contents, encodeSlot, decodeSlot, slotOk};
-ghost use Rattle.sifv.specs.Seen.{shown, seen, plain, bare, headBytes, kindIn, wordIn, Kept, itemAt, setItem, entriesIn, found, boxBytes, keysOk, oneOk, arrOk, tabOk};
+ghost use Rattle.sifv.specs.Seen.{shown, seen, plain, bare, headBytes, kindIn, wordIn, Kept, itemAt, setItem, boxBytes, keysOk, oneOk, arrOk, tabOk};
 ghost use Rattle.sifv.specs.Formed.{Formed, lenIn};
 ghost use Rattle.sifv.specs.StoredForm.{storedOf};
-
-// The bytes of a value slot (docs/FORMATS.md).
-pub const SLOT: usize = 256;
 
 // A value as the program holds it; the contents of an array and a table stay in their slot.
 // Empty: an empty register, or a name that is not set.
@@ -135,43 +132,12 @@ fn put_head(s: &mut [u8], at: usize, kind: u64, len: u64, word: u64)
     lent::put_u64(s, at + 8, word);
 }
 
-// A value without contents, written over the slot at byte at. It is read again.
-pub fn put_single(s: &mut [u8], at: usize, v: SifVal)
-    requires { ⌜ at + 256 ≤ length (now s) ⌝ }
-    ensures { λ _. ⌜ (now (s .exit) ≡ splice (now (s .entry)) at (encodeSlot (bare v))) × (decodeSlot (encodeSlot (bare v)) ≡ bare v) ⌝ }
-{
-    put_head(s, at, kind_of(v), 0, word_of(v));
-    lent::zero(s, at + 16, 240);
-}
-
-// The same by 16 bytes, over a slot that has no contents either.
+// A value without contents, by 16 bytes, over a slot that has none either.
 pub fn put_over(s: &mut [u8], at: usize, v: SifVal)
     requires { ⌜ (at + 256 ≤ length (now s)) × (part (now s) (at + 16) 240 ≡ zeros 240) ⌝ }
     ensures { λ _. ⌜ (now (s .exit) ≡ splice (now (s .entry)) at (encodeSlot (bare v))) × (decodeSlot (encodeSlot (bare v)) ≡ bare v) ⌝ }
 {
     put_head(s, at, kind_of(v), 0, word_of(v));
-}
-
-// The slot at byte from, written over the slot at byte to.
-pub fn move_slot(s: &mut [u8], from: usize, to: usize)
-    requires { ⌜ (from + 256 ≤ length (now s)) × (to + 256 ≤ length (now s)) ⌝ }
-    ensures { λ _. ⌜ now (s .exit) ≡ splice (now (s .entry)) to (part (now (s .entry)) from 256) ⌝ }
-{
-    let mut t = [0u8; 256];
-    let e = from + 256;
-    lent::copy(&mut t, 0, &s[from..e]);
-    lent::copy(s, to, &t);
-}
-
-// The same by 16 bytes, where the two slots have the same contents: none.
-pub fn move_over(s: &mut [u8], from: usize, to: usize)
-    requires { ⌜ (from + 256 ≤ length (now s)) × (to + 256 ≤ length (now s)) × (part (now s) (from + 16) 240 ≡ part (now s) (to + 16) 240) ⌝ }
-    ensures { λ _. ⌜ now (s .exit) ≡ splice (now (s .entry)) to (part (now (s .entry)) from 256) ⌝ }
-{
-    let mut t = [0u8; 16];
-    let e = from + 16;
-    lent::copy(&mut t, 0, &s[from..e]);
-    lent::copy(s, to, &t);
 }
 
 // Item i of the slot at byte at.
@@ -206,22 +172,6 @@ pub fn put_item(s: &mut [u8], at: usize, i: usize, v: SifVal)
     let k = at + (16 + i);
     s[k] = item_kind(v);
     lent::put_u64(s, at + (40 + i * 8), word_of(v));
-}
-
-// The value of a key in the table at byte at, or Empty.
-pub fn get_entry(s: &[u8], at: usize, key: u64) -> SifVal
-    requires { ⌜ at + 256 ≤ length (now s) ⌝ }
-    ensures { λ r. ⌜ r ≡ found (lookup (entriesIn (min (getD (part (now (s .entry)) at 256) 1 0) 16) (part (now (s .entry)) at 256)) key) ⌝ }
-{
-    let n = least(lent::wide(s[at + 1]), 16) as usize;
-    let mut i = 0;
-    while i < n {
-        if lent::wide(s[at + (232 + i)]) == key {
-            return get_item(s, at, i);
-        }
-        i += 1;
-    }
-    SifVal::Empty
 }
 
 fn both(a: bool, b: bool) -> bool

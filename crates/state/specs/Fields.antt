@@ -1,4 +1,4 @@
--- What is read of the state's bytes: position and depths, the mark by the names' kind bytes, the tests of the check.
+-- What is read of the state's bytes: position, depths and count, the mark by the names' kind bytes, the tests of the check.
 -- Definitions only.
 use Prim.Native.Nat.{ℕ, zero, suc, _+_, _*_, _^_}
 use mathlib.Core.Bool.{Bool, true, false, cond, not, _&&_}
@@ -9,9 +9,13 @@ use Rattle.lent.specs.Bytes.{beValue, part, sameBytes}
 use Rattle.sifv.specs.Slot.{zeros, slotOk}
 use Rattle.vm.specs.StateBytes.{upto}
 use Rattle.execute.specs.declared.Loc.{Loc}
+use Rattle.run.specs.declared.Progress.{Progress}
 
 abbrev pub locAt : List ℕ → Loc
 locAt b = record { pos = beValue (part b 47344 2); depth = getD b 47346 0; calls = getD b 47347 0 }
+
+abbrev pub progressAt : List ℕ → Progress
+progressAt b = record { loc = locAt b; count = beValue (part b 47336 8) }
 
 -- 1 where a kind byte says that a value is held
 abbrev pub kindBit : ℕ → ℕ

@@ -6,11 +6,13 @@ ghost use Prim.Native.Nat.{_≤_};
 ghost use lib.ListN.{length, drop};
 ghost use Rattle.tables.specs.ProgramBytes.{decodeProgram};
 ghost use Rattle.vm.specs.Machine as Machine;
-ghost use Rattle.vm.specs.StateBytes.{encodeState, decodeState, stateOk};
+ghost use Rattle.vm.specs.StateBytes.{encodeState, stateOk};
 ghost use Rattle.execute.specs.Programs.{programOf};
 ghost use Rattle.execute.specs.View.{Holds, view};
-ghost use Rattle.state.specs.Fields.{locAt, kindBit, markOf, placeOk, frameOk, slotsOk, stackOk, framesOk, fnsOk, smallOk};
+ghost use Rattle.run.specs.Runs.{at};
+ghost use Rattle.state.specs.Fields.{locAt, progressAt, kindBit, markOf, placeOk, frameOk, slotsOk, stackOk, framesOk, fnsOk, smallOk};
 use execute::Loc;
+use run::Progress;
 
 // Bytes of the state's fields behind the value slots: docs/FORMATS.md, "State".
 const NAMES: usize = 24576;
@@ -33,16 +35,8 @@ const CALL_DEPTH: usize = 47347;
 
 const REST: usize = 47348;
 
-// The steps counted since start.
-pub fn count_of(state: &[u8]) -> u64
-    requires { ⌜ 47360 ≤ length (now state) ⌝ }
-    ensures { λ r. ⌜ r ≡ decodeState (now (state .entry)) .count ⌝ }
-{
-    lent::get_u64(state, COUNT)
-}
-
 // Position and depths.
-pub fn loc_of(state: &[u8]) -> Loc
+fn loc_of(state: &[u8]) -> Loc
     requires { ⌜ 47360 ≤ length (now state) ⌝ }
     ensures { λ r. ⌜ r ≡ locAt (now (state .entry)) ⌝ }
 {
@@ -50,6 +44,17 @@ pub fn loc_of(state: &[u8]) -> Loc
         pos: lent::get_u16(state, POS) as usize,
         depth: lent::get_u8(state, DEPTH) as usize,
         calls: lent::get_u8(state, CALL_DEPTH) as usize,
+    }
+}
+
+// How far the state's run is.
+pub fn progress_of(state: &[u8]) -> Progress
+    requires { ⌜ 47360 ≤ length (now state) ⌝ }
+    ensures { λ r. ⌜ r ≡ progressAt (now (state .entry)) ⌝ }
+{
+    Progress {
+        loc: loc_of(state),
+        count: lent::get_u64(state, COUNT),
     }
 }
 
@@ -175,13 +180,14 @@ pub fn state_ok(state: &[u8], n: u64) -> bool
 
 // ---- after a run
 
-// Mark, count, position and depths, which a run keeps elsewhere.
-pub fn write_back(state: &mut [u8], loc: Loc, count: u64)
-    requires { ⌜ Holds (now state) (view (now state) loc) × (loc .depth ≤ 24) × (loc .calls ≤ 24) ⌝ }
-    ensures { λ _. ⌜ now (state .exit) ≡ encodeState (record { machine = view (now (state .entry)) loc; count = count }) ++ drop 47360 (now (state .entry)) ⌝ }
+// Mark, and the progress, which a run keeps elsewhere.
+pub fn write_back(state: &mut [u8], p: Progress)
+    requires { ⌜ Holds (now state) (view (now state) (p .loc)) × (p .loc .depth ≤ 24) × (p .loc .calls ≤ 24) ⌝ }
+    ensures { λ _. ⌜ now (state .exit) ≡ encodeState (at (now (state .entry)) p) ++ drop 47360 (now (state .entry)) ⌝ }
 {
+    let loc = p.loc;
     lent::put_u64(state, MARK, mark_of(state));
-    lent::put_u64(state, COUNT, count);
+    lent::put_u64(state, COUNT, p.count);
     lent::put_u16(state, POS, loc.pos as u64);
     lent::put_u8(state, DEPTH, loc.depth as u64);
     lent::put_u8(state, CALL_DEPTH, loc.calls as u64);

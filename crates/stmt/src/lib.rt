@@ -71,6 +71,7 @@ fn blocks(
     stmts(n, contents, bodies, keep, p, out)
 }
 
+// n statements.
 fn stmts(
     n: u8,
     contents: &[u8],
@@ -82,11 +83,13 @@ fn stmts(
     requires { ⌜ ReadsAt (lists (p .lbl) n) (now contents) (now bodies) p (now out) ⌝ }
     ensures { λ r. ⌜ Goes (lists (p .lbl) n) (now (contents .entry)) (now (bodies .entry)) keep p (now (out .entry)) r (now (out .exit)) ⌝ }
 {
-    if n == 0 {
-        return p;
+    let mut q = p;
+    let mut more = n;
+    while 0 < more {
+        q = block(contents, bodies, keep, q, out);
+        more -= 1;
     }
-    let a = block(contents, bodies, keep, p, out);
-    stmts(n - 1, contents, bodies, keep, a, out)
+    q
 }
 
 // To the declarations, also from the code.

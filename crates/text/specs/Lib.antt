@@ -2,3 +2,4 @@ pub mod Text
 pub mod Put
 pub mod PutLaws
 pub mod Digits
+pub mod Joined

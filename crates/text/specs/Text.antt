@@ -50,11 +50,25 @@ joined s [] = []
 joined s (a ∷ []) = a
 joined s (a ∷ (b ∷ l)) = a ++ (s ++ joined s (b ∷ l))
 
+-- what stands before text number i of them: the separator, but before the first nothing
+abbrev pub gap : List ℕ → ℕ → List ℕ
+gap s zero = []
+gap s (suc i) = s
+
 -- "`Arr:` or `Tab:` and the items in brackets, commas between"
 abbrev pub valueText : Value → List ℕ
 valueText (One s) = singleText s
 valueText (Arr l) = ascii "Arr:[" ++ (joined (ascii ",") (map singleText l) ++ ascii "]")
 valueText (Tab t) = ascii "Tab:[" ++ (joined (ascii ",") (map entryText t) ++ ascii "]")
+
+-- a word and numbers
+abbrev pub words : String → List ℕ → List (List ℕ)
+words s ns = ascii s ∷ map decimal ns
+
+-- numbers as a line's further fields
+abbrev pub fields : List ℕ → List ℕ
+fields [] = []
+fields (n ∷ ns) = ascii " " ++ (decimal n ++ fields ns)
 
 -- a line: fields with one blank between, and the line's end
 abbrev pub lineOf : List (List ℕ) → List ℕ

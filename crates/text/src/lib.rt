@@ -1,11 +1,11 @@
 // Text in a lent buffer: bytes, words, numbers. What does not fit is cut.
 ghost use mathlib.Core.Path.{_≡_};
-ghost use mathlib.Core.List.{[], _∷_};
+ghost use mathlib.Core.List.{[], _∷_, _++_};
 ghost use Prim.Native.Nat.{_-_, _^_, _≤_, _<_};
 ghost use lib.ListN.{length};
 ghost use Rattle.sifv.specs.Value.{Num, Str, Bl, Null};
 ghost use Rattle.sifv.specs.Seen.{plain};
-ghost use Rattle.text.specs.Text.{digits, decimal, hexDigit, hex, singleText};
+ghost use Rattle.text.specs.Text.{ascii, digits, decimal, hexDigit, hex, singleText, gap};
 ghost use Rattle.text.specs.Put.{Put};
 use sifv::SifVal;
 
@@ -85,6 +85,26 @@ pub fn put_hex(out: &mut [u8], at: usize, n: u64) -> usize
     ensures { λ r. ⌜ Put (now (out .entry)) at (hex 16 n) (now (out .exit)) r ⌝ }
 {
     put_digits16(out, at, 16, 1152921504606846976, n)
+}
+
+// A number as a field of a line: the blank before it, and the number.
+pub fn put_field(out: &mut [u8], at: usize, n: u64) -> usize
+    requires { ⌜ at ≤ length (now out) ⌝ }
+    ensures { λ r. ⌜ Put (now (out .entry)) at (ascii " " ++ decimal n) (now (out .exit)) r ⌝ }
+{
+    let p = put(out, at, 32);
+    put_decimal(out, p, n)
+}
+
+// The comma before item i.
+pub fn put_gap(out: &mut [u8], at: usize, i: usize) -> usize
+    requires { ⌜ at ≤ length (now out) ⌝ }
+    ensures { λ r. ⌜ Put (now (out .entry)) at (gap (ascii ",") i) (now (out .exit)) r ⌝ }
+{
+    if i == 0 {
+        return at;
+    }
+    put(out, at, 44)
 }
 
 // ---- values

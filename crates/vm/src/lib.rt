@@ -1,4 +1,1 @@
-// The machine's sizes (document 01, "Modules, leaves first" and "Numbers given for the state").
-pub const REGISTERS: usize = 96;
-
-pub const STACK: usize = 24;
+// Definitions and laws only: specs/.

@@ -34,7 +34,7 @@ count-lt (stops h) e = h
 
 -- for any l that is at least 1 and the longest array literal
 module _ (l : ℕ) (t : Stmts) (p : T (plain t)) where
-  total-is-cost : total l (lowerTree t) ≡ orOneCost t (costStmts l t)
+  pub total-is-cost : total l (lowerTree t) ≡ orOneCost t (costStmts l t)
   total-is-cost = a-tree t p .sum ∙ rw pow-zero (mul-one _)
 
   within-total : 1 ≤ l → longest t ≤ l → Within l Any (total l (lowerTree t)) (walk t)

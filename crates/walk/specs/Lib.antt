@@ -8,3 +8,4 @@ pub mod Theorems
 pub mod Simulation
 pub mod Bounded
 pub mod BoundSize
+pub mod BoundByNodes

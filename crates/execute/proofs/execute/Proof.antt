@@ -5,7 +5,7 @@ use lib.ListN.{length}
 use Rattle.opc.specs.Op as model
 use Rattle.tables.specs.Tables.{labelAt}
 use Rattle.vm.specs.Operation.{Ok, read}
-use Rattle.execute.specs.View.{binModel, unModel, poolOf, literalValue, regsOf, namesOf}
+use Rattle.execute.specs.View.{binModel, unModel, literalAt, regsOf, namesOf}
 use Rattle.execute.specs.Laying.{length-stack, length-frames, canon-neat}
 use Rattle.execute.specs.Acts.{reg-formed, reg-value, name-formed, name-value, loads-law, loadv-law, wrote-law, stores-law}
 use Rattle.execute.specs.Stacks.{stored-as}
@@ -71,7 +71,7 @@ loadc-requires c κs =
     let b = s .args .state .now in
     let l = s .args .loc in
     let m = means-at (s .args .program .now) p (s .pre .0) (l .pos) (s .pre .2) (sym (c .before .before .op3 .given .1) ∙ c .before .before .before .before .fetch .ensures) in
-    (omega (arith, s .pre .0 .room), canon-neat (length (p .code)) b l (s .pre .1), m .1, m .2)
+    (omega (arith, s .pre .0 .room), canon-neat (length (p .code)) b l (s .pre .1), m .1, m .2, m .3)
 
 stepped-requires : tie.Need-stepped-requires
 stepped-requires c κs = search needs
@@ -173,7 +173,7 @@ storec-requires c κs =
     let b = s .args .state .now in
     let l = s .args .loc in
     let m = means-at (s .args .program .now) p (s .pre .0) (l .pos) (s .pre .2) (sym (c .before .before .op9 .given .1) ∙ c .before .before .before .before .fetch .ensures) in
-    (omega (arith, s .pre .0 .room), canon-neat (length (p .code)) b l (s .pre .1), m .1, m .2)
+    (omega (arith, s .pre .0 .room), canon-neat (length (p .code)) b l (s .pre .1), m .1, m .2, m .3)
 
 stepped-requires-5 : tie.Need-stepped-requires-5
 stepped-requires-5 c κs = search needs
@@ -441,8 +441,8 @@ returns-3 c =
     let l = s .args .loc in
     let m = means-at (s .args .program .now) p (s .pre .0) (l .pos) (s .pre .2) (sym (c .before .before .before .before .before .before .op3 .given .1) ∙ c .before .before .before .before .before .before .before .before .fetch .ensures) in
     let o = c .before .before .before .before .before .before .op3 .given .0 in
-    step-at p b l (model.Ldc (o .0) (literalValue (poolOf (s .args .program .now)) (o .1 .0))) (s .pre .2) (m .0)
-    (loadv-law b l (s .pre .1 .holds) (o .0) (Ok (literalValue (poolOf (s .args .program .now)) (o .1 .0))) (m .1) (c .before .before .before .loadc .ensures) (c .stepped .ensures))
+    step-at p b l (model.Ldc (o .0) (literalAt (s .args .program .now) (o .1 .0))) (s .pre .2) (m .0)
+    (loadv-law b l (s .pre .1 .holds) (o .0) (Ok (literalAt (s .args .program .now) (o .1 .0))) (m .1) (c .before .before .before .loadc .ensures) (c .stepped .ensures))
 
 same-length-4 : tie.Need-same-length-4
 same-length-4 c = search needs
@@ -525,7 +525,7 @@ returns-9 c =
     let l = s .args .loc in
     let m = means-at (s .args .program .now) p (s .pre .0) (l .pos) (s .pre .2) (sym (c .before .before .before .before .before .before .op9 .given .1) ∙ c .before .before .before .before .before .before .before .before .fetch .ensures) in
     let o = c .before .before .before .before .before .before .op9 .given .0 in
-    step-at p b l (model.Stc (literalValue (poolOf (s .args .program .now)) (o .0)) (o .1 .0)) (s .pre .2) (m .0)
+    step-at p b l (model.Stc (literalAt (s .args .program .now) (o .0)) (o .1 .0)) (s .pre .2) (m .0)
     (stores-law b l (s .pre .1 .holds) (c .before .before .before .storec .ensures) (c .stepped5 .ensures))
 
 same-length-10 : tie.Need-same-length-10

@@ -1,7 +1,11 @@
 -- `execute::loadc` meets its contract. Assumes nothing.
-use mathlib.Core.Path.{_≡_, refl, sym, ap, _∙_}
+use mathlib.Core.Path.{refl, sym, subst}
+use Prim.Native.Nat.{ℕ, _<_}
+use native.Mathlib.Omega.{arith}
+use Rattle.sifv.specs.Slot.{singleOf}
+use Rattle.execute.specs.View.{recordAt}
 use Rattle.execute.specs.Acts.{reg-formed}
-use Rattle.execute.specs.Literals.{literal-reg}
+use Rattle.execute.specs.Literals.{literal-single, stored-put, literal-reg}
 use borrow.Author.Needs.{needs}
 use Rattle.execute.proofs.loadc.Statement.{statement}
 use Rattle.execute.proofs.loadc.Tie as tie
@@ -9,14 +13,40 @@ use Rattle.execute.proofs.loadc.Tie as tie
 reg-requires : tie.Need-reg-requires
 reg-requires c κs = search needs
 
-put-literal-requires : tie.Need-put-literal-requires
-put-literal-requires c κs = let f = reg-formed (c .before .before .before .before .args .state .now) (c .before .before .before .before .pre .1) (c .before .before .before .before .args .dest) (c .before .before .before .before .pre .2) (c .reg .ensures) in (c .before .before .before .before .pre .0, f .0, f .1, c .before .before .before .before .pre .3)
+kind-of-requires : tie.Need-kind-of-requires
+kind-of-requires c κs = search needs
+
+stored-requires : tie.Need-stored-requires
+stored-requires c κs = let s = c .before .before .before .before .before .before in let b = s .args .program .now in let k = s .args .val in (omega (arith, s .pre .0), s .pre .3, literal-single b k (s .pre .4) (subst (λ (x : ℕ). x < 5) (c .before .before .kind-of .ensures) (c .before .if1 .taken)) .0)
+
+put-requires : tie.Need-put-requires
+put-requires c κs = let s = c .before .before .before .before .before .before .before in reg-formed (s .args .state .now) (s .pre .1) (s .args .dest) (s .pre .2) (c .before .before .before .before .reg .ensures)
 
 same-length : tie.Need-same-length
 same-length c = search needs
 
 returns : tie.Need-returns
-returns c = literal-reg (c .before .before .before .before .before .before .before .args .state .now) (c .before .before .before .before .before .before .before .pre .3) refl (c .before .before .put-literal .ensures) (c .before .before .before .before .before .before .before .args .dest) (c .before .before .before .reg .ensures)
+returns c = let s = c .before .before .before .before .before .before .before .before .before .before in let b = s .args .program .now in let k = s .args .val in literal-reg (s .args .state .now) b k (s .pre .4) refl (stored-put (singleOf (recordAt b k .kind) (recordAt b k .word)) (s .args .state .now) (c .before .before .before .before .before .before .before .reg .result) (c .before .before .before .stored .ensures) (literal-single b k (s .pre .4) (subst (λ (x : ℕ). x < 5) (c .before .before .before .before .before .before .kind-of .ensures) (c .before .before .before .before .before .if1 .taken)) .1) (c .before .before .put .ensures)) (s .args .dest) (c .before .before .before .before .before .before .before .reg .ensures)
+
+put-contents-requires : tie.Need-put-contents-requires
+put-contents-requires c κs = let s = c .before .before .before .before .before .before in let b = s .args .program .now in let k = s .args .val in let f = reg-formed (s .args .state .now) (s .pre .1) (s .args .dest) (s .pre .2) (c .before .before .before .reg .ensures) in (s .pre .0, f .0, f .1, s .pre .3, s .pre .4, λ z. omega (arith, c .before .if1 .left, c .before .before .kind-of .ensures, z))
+
+same-length-2 : tie.Need-same-length-2
+same-length-2 c = search needs
+
+returns-2 : tie.Need-returns-2
+returns-2 c = let s = c .before .before .before .before .before .before .before .before .before in let b = s .args .program .now in let k = s .args .val in literal-reg (s .args .state .now) b k (s .pre .4) refl (c .before .before .put-contents .ensures) (s .args .dest) (c .before .before .before .before .before .before .reg .ensures)
 
 pub loadc-spec : {M : Type 1} → statement M
-loadc-spec = tie.close (tie.spec reg-requires put-literal-requires same-length returns)
+loadc-spec =
+    tie.close
+    (tie.spec
+    reg-requires
+    kind-of-requires
+    stored-requires
+    put-requires
+    same-length
+    returns
+    put-contents-requires
+    same-length-2
+    returns-2)

@@ -7,6 +7,7 @@ use Rattle.emit.specs.declared.Done.{Done}
 use Rattle.emit.specs.Spell.{length-from}
 use Rattle.emit.specs.Leaves.{ready-start}
 use Rattle.emit.specs.Places.{reads-from, at-within, at-goes}
+use Rattle.emit.specs.Loops.{Left, left-start, left-turn, left-end}
 use Rattle.expr.specs.Parts as part
 use Rattle.expr.proofs.Exprs.{un-room, un-roomb, un-reads, un-ready, un-made, bin-room, bin-roomb, bin-reads₁, bin-cont₁, bin-reads₂, bin-ready₂, bin-made, operand-goes, operand-reads, operand-within}
 use Rattle.expr.proofs.Exprs.{mut-room, mut-roomb, mut-skips, mut-reads₁, mut-reads₂, mut-ready₃, mut-made, params-none, par-reads, par-next, par-ready, par-goes, call-room, call-roomb, call-reads, call-ready₁, call-ready₂, call-made}
@@ -2842,7 +2843,13 @@ match-table-assign-returns : (t : ℕ) → match-table-assign-lts.Need-returns (
 ) (match-table-assign-at t) match-table-assign.Post
 match-table-assign-returns t c = tab-front (c .before .before .before .before .before .before .before .before .before .before .before .before .before .before .pre .1 .1) (λ is h. tab-made h (c .before .before .before .before .before .before .before .before .before .before .before .before .before .before .pre .1 .0 .ready) (c .before .before .before .before .before .before .before .before .before .start .ensures) (c .before .before .before .before .before .before .before .before .fields-of .ensures) (c .before .before .before .before .before .before .push-at .ensures) (c .before .before .table-items .ensures))
 
-params-returns : (t : ℕ) → params-lts.Need-returns (
+abbrev params-Inv-loop : params-lts.InvT-loop
+params-Inv-loop n contents bodies keep out₀ q₀ more₀ out q more = (length out ≡ length out₀) × Left (part.params n) (part.params more) contents bodies keep q₀ out₀ q out
+
+abbrev params-μ-loop : params-lts.MeasureT-loop
+params-μ-loop n contents bodies keep out₀ q₀ more₀ out q more = more
+
+params-loop-holds : (t : ℕ) → params-lts.Need-loop-holds (
   expr-at-below t,
   expr-at′.Post,
   prevreg-reads.Asked,
@@ -2851,10 +2858,8 @@ params-returns : (t : ℕ) → params-lts.Need-returns (
   fields-of-reads.Learnt,
   push-at-reads.Asked,
   push-at-reads.Learnt,
-  params-below t,
-  params.Post,
-) (params-at t) params.Post
-params-returns t c = params-none (c .if1 .taken)
+) (params-at t) params.Post params-Inv-loop params-μ-loop
+params-loop-holds t c = (refl, left-start (c .before .before .before .pre .1))
 
 params-expr-at-requires : (t : ℕ) → params-lts.Need-expr-at-requires (
   expr-at-below t,
@@ -2865,10 +2870,11 @@ params-expr-at-requires : (t : ℕ) → params-lts.Need-expr-at-requires (
   fields-of-reads.Learnt,
   push-at-reads.Asked,
   push-at-reads.Learnt,
-  params-below t,
-  params.Post,
-) (params-at t) params.Post
-params-expr-at-requires t c κs = (omega (arith, c .before .before .before .before .before .pre .0), par-reads (c .before .if1 .left) (c .before .before .before .before .before .pre .1))
+) (params-at t) params.Post params-Inv-loop params-μ-loop
+params-expr-at-requires t c κs =
+    let l = c .before .before .loop in
+    let z : l .more ≡ 0 → ⊥ = λ e. omega (arith, e) in
+    (omega (arith, c .before .before .before .before .before .before .pre .0, l .inv .1 .behind), par-reads z (l .inv .1 .reads))
 
 params-prevreg-requires : (t : ℕ) → params-lts.Need-prevreg-requires (
   expr-at-below t,
@@ -2879,9 +2885,7 @@ params-prevreg-requires : (t : ℕ) → params-lts.Need-prevreg-requires (
   fields-of-reads.Learnt,
   push-at-reads.Asked,
   push-at-reads.Learnt,
-  params-below t,
-  params.Post,
-) (params-at t) params.Post
+) (params-at t) params.Post params-Inv-loop params-μ-loop
 params-prevreg-requires t c κs = search needs
 
 params-fields-of-requires : (t : ℕ) → params-lts.Need-fields-of-requires (
@@ -2893,9 +2897,7 @@ params-fields-of-requires : (t : ℕ) → params-lts.Need-fields-of-requires (
   fields-of-reads.Learnt,
   push-at-reads.Asked,
   push-at-reads.Learnt,
-  params-below t,
-  params.Post,
-) (params-at t) params.Post
+) (params-at t) params.Post params-Inv-loop params-μ-loop
 params-fields-of-requires t c κs = search needs
 
 params-push-at-requires : (t : ℕ) → params-lts.Need-push-at-requires (
@@ -2907,12 +2909,13 @@ params-push-at-requires : (t : ℕ) → params-lts.Need-push-at-requires (
   fields-of-reads.Learnt,
   push-at-reads.Asked,
   push-at-reads.Learnt,
-  params-below t,
-  params.Post,
-) (params-at t) params.Post
-params-push-at-requires t c κs = par-ready (c .before .before .before .before .before .expr-at .ensures) (c .before .before .before .before .before .before .before .if1 .left) (c .before .before .before .before .before .before .before .before .before .before .before .pre .1)
+) (params-at t) params.Post params-Inv-loop params-μ-loop
+params-push-at-requires t c κs =
+    let l = c .before .before .before .before .before .before .before .before .loop in
+    let z : l .more ≡ 0 → ⊥ = λ e. omega (arith, e) in
+    par-ready (c .before .before .before .before .before .expr-at .ensures) z (l .inv .1 .reads)
 
-params-sub-params : (t : ℕ) → params-lts.Need-sub-params (
+params-sub-more : (t : ℕ) → params-lts.Need-sub-more (
   expr-at-below t,
   expr-at′.Post,
   prevreg-reads.Asked,
@@ -2921,12 +2924,10 @@ params-sub-params : (t : ℕ) → params-lts.Need-sub-params (
   fields-of-reads.Learnt,
   push-at-reads.Asked,
   push-at-reads.Learnt,
-  params-below t,
-  params.Post,
-) (params-at t) params.Post
-params-sub-params t c = search needs
+) (params-at t) params.Post params-Inv-loop params-μ-loop
+params-sub-more t c = omega arith
 
-params-params-requires : (t : ℕ) → params-lts.Need-params-requires (
+params-loop-less : (t : ℕ) → params-lts.Need-loop-less (
   expr-at-below t,
   expr-at′.Post,
   prevreg-reads.Asked,
@@ -2935,13 +2936,27 @@ params-params-requires : (t : ℕ) → params-lts.Need-params-requires (
   fields-of-reads.Learnt,
   push-at-reads.Asked,
   push-at-reads.Learnt,
-  params-below t,
-  params.Post,
-) (params-at t) params.Post
-params-params-requires t c κs =
-    let z : c .before .before .before .before .before .before .before .before .before .before .before .before .before .before .before .args .n ≡ suc (c .before .before .before .before .before .before .before .before .before .before .before .before .before .before .before .args .n - 1) = omega (arith, c .before .before .before .before .before .before .before .before .before .before .before .if1 .left) in
-    let q = par-next (c .before .before .before .before .before .before .before .before .before .expr-at .ensures) (rw (c .before .before .before .before .before .before .prevreg .ensures) at (c .before .before .before .before .before .fields-of .ensures)) (c .before .before .before .push-at .ensures) z (c .before .before .before .before .before .before .before .before .before .before .before .before .before .before .before .pre .1) in
-    (omega (arith, c .before .before .before .before .before .before .before .before .before .before .before .before .before .before .before .pre .0, q .0, q .1 .cont), q .1)
+) (params-at t) params.Post params-Inv-loop params-μ-loop
+params-loop-less t c = omega arith
+
+params-loop-again : (t : ℕ) → params-lts.Need-loop-again (
+  expr-at-below t,
+  expr-at′.Post,
+  prevreg-reads.Asked,
+  prevreg-reads.Learnt,
+  fields-of-reads.Asked,
+  fields-of-reads.Learnt,
+  push-at-reads.Asked,
+  push-at-reads.Learnt,
+) (params-at t) params.Post params-Inv-loop params-μ-loop
+params-loop-again t c =
+    let l = c .before .before .before .before .before .before .before .before .before .before .before .loop in
+    let g = c .before .before .before .before .before .before .before .before .expr-at .ensures in
+    let f = rw (c .before .before .before .before .before .prevreg .ensures) at (c .before .before .before .before .fields-of .ensures) in
+    let u = c .before .before .push-at .ensures in
+    let z : l .more ≡ suc (l .more - 1) = omega arith in
+    let n = par-next g f u z (l .inv .1 .reads) in
+    (search needs, left-turn (l .inv .1) (omega (arith, n .0)) (n .1) (λ r d x. par-goes g f u z x))
 
 params-same-length : (t : ℕ) → params-lts.Need-same-length (
   expr-at-below t,
@@ -2952,12 +2967,10 @@ params-same-length : (t : ℕ) → params-lts.Need-same-length (
   fields-of-reads.Learnt,
   push-at-reads.Asked,
   push-at-reads.Learnt,
-  params-below t,
-  params.Post,
-) (params-at t) params.Post
-params-same-length t c = search needs
+) (params-at t) params.Post params-Inv-loop params-μ-loop
+params-same-length t c = c .before .loop .inv .0
 
-params-returns-2 : (t : ℕ) → params-lts.Need-returns-2 (
+params-returns : (t : ℕ) → params-lts.Need-returns (
   expr-at-below t,
   expr-at′.Post,
   prevreg-reads.Asked,
@@ -2966,14 +2979,16 @@ params-returns-2 : (t : ℕ) → params-lts.Need-returns-2 (
   fields-of-reads.Learnt,
   push-at-reads.Asked,
   push-at-reads.Learnt,
-  params-below t,
-  params.Post,
-) (params-at t) params.Post
-params-returns-2 t c =
-    let z : c .before .before .before .before .before .before .before .before .before .before .before .before .before .before .before .before .before .before .args .n ≡ suc (c .before .before .before .before .before .before .before .before .before .before .before .before .before .before .before .before .before .before .args .n - 1) = omega (arith, c .before .before .before .before .before .before .before .before .before .before .before .before .before .before .if1 .left) in
-    par-goes (c .before .before .before .before .before .before .before .before .before .before .before .before .expr-at .ensures) (rw (c .before .before .before .before .before .before .before .before .before .prevreg .ensures) at (c .before .before .before .before .before .before .before .before .fields-of .ensures)) (c .before .before .before .before .before .before .push-at .ensures) z (c .before .before .params .ensures)
+) (params-at t) params.Post params-Inv-loop params-μ-loop
+params-returns t c = left-end (c .before .loop .inv .1) (params-none (omega arith))
 
-table-items-returns : (t : ℕ) → table-items-lts.Need-returns (
+abbrev table-items-Inv-loop : table-items-lts.InvT-loop
+table-items-Inv-loop n x contents bodies keep out₀ q₀ more₀ out q more = (length out ≡ length out₀) × Left (part.items n x) (part.items more x) contents bodies keep q₀ out₀ q out
+
+abbrev table-items-μ-loop : table-items-lts.MeasureT-loop
+table-items-μ-loop n x contents bodies keep out₀ q₀ more₀ out q more = more
+
+table-items-loop-holds : (t : ℕ) → table-items-lts.Need-loop-holds (
   pass-reads.Asked,
   pass-reads.Learnt,
   expr-at-below t,
@@ -2984,10 +2999,8 @@ table-items-returns : (t : ℕ) → table-items-lts.Need-returns (
   fields-of-reads.Learnt,
   push-at-reads.Asked,
   push-at-reads.Learnt,
-  table-items-below t,
-  table-items.Post,
-) (table-items-at t) table-items.Post
-table-items-returns t c = items-none (c .if1 .taken)
+) (table-items-at t) table-items.Post table-items-Inv-loop table-items-μ-loop
+table-items-loop-holds t c = (refl, left-start (c .before .before .before .pre .1))
 
 table-items-shared-slice-read-key : (t : ℕ) → table-items-lts.Need-shared-slice-read-key (
   pass-reads.Asked,
@@ -3000,12 +3013,11 @@ table-items-shared-slice-read-key : (t : ℕ) → table-items-lts.Need-shared-sl
   fields-of-reads.Learnt,
   push-at-reads.Asked,
   push-at-reads.Learnt,
-  table-items-below t,
-  table-items.Post,
-) (table-items-at t) table-items.Post
+) (table-items-at t) table-items.Post table-items-Inv-loop table-items-μ-loop
 table-items-shared-slice-read-key t c =
-    let q = items-room (c .before .if1 .left) (c .before .before .before .before .before .pre .1) in
-    omega (arith, q .1)
+    let l = c .before .before .loop in
+    let z : l .more ≡ 0 → ⊥ = λ e. omega (arith, e) in
+    omega (arith, items-room z (l .inv .1 .reads) .1)
 
 table-items-pass-requires : (t : ℕ) → table-items-lts.Need-pass-requires (
   pass-reads.Asked,
@@ -3018,11 +3030,11 @@ table-items-pass-requires : (t : ℕ) → table-items-lts.Need-pass-requires (
   fields-of-reads.Learnt,
   push-at-reads.Asked,
   push-at-reads.Learnt,
-  table-items-below t,
-  table-items.Post,
-) (table-items-at t) table-items.Post
+) (table-items-at t) table-items.Post table-items-Inv-loop table-items-μ-loop
 table-items-pass-requires t c κs =
-    let q = items-room (c .before .if1 .left) (c .before .before .before .before .before .pre .1) in
+    let l = c .before .before .loop in
+    let z : l .more ≡ 0 → ⊥ = λ e. omega (arith, e) in
+    let q = items-room z (l .inv .1 .reads) in
     (omega (arith, q .0), omega (arith, q .1))
 
 table-items-expr-at-requires : (t : ℕ) → table-items-lts.Need-expr-at-requires (
@@ -3036,12 +3048,12 @@ table-items-expr-at-requires : (t : ℕ) → table-items-lts.Need-expr-at-requir
   fields-of-reads.Learnt,
   push-at-reads.Asked,
   push-at-reads.Learnt,
-  table-items-below t,
-  table-items.Post,
-) (table-items-at t) table-items.Post
+) (table-items-at t) table-items.Post table-items-Inv-loop table-items-μ-loop
 table-items-expr-at-requires t c κs =
-    let a = c .before .before .before .before .before .before .before .args in
-    (omega (arith, c .before .before .before .before .before .before .before .pre .0, ap (λ (d : Done). d .cont) (c .before .pass .ensures)), item-reads (a .n) (a .x) (a .contents .now) (a .bodies .now) (a .p) (c .before .pass .ensures) (c .before .before .before .if1 .left) (c .before .before .before .before .before .before .before .pre .1))
+    let a = c .before .before .before .before .before .before .before .before .args in
+    let l = c .before .before .before .before .loop in
+    let z : l .more ≡ 0 → ⊥ = λ e. omega (arith, e) in
+    (omega (arith, c .before .before .before .before .before .before .before .before .pre .0, l .inv .1 .behind, ap (λ (d : Done). d .cont) (c .before .pass .ensures)), item-reads (l .more) (a .x) (a .contents .now) (a .bodies .now) (l .q) (c .before .pass .ensures) z (l .inv .1 .reads))
 
 table-items-prevreg-requires : (t : ℕ) → table-items-lts.Need-prevreg-requires (
   pass-reads.Asked,
@@ -3054,9 +3066,7 @@ table-items-prevreg-requires : (t : ℕ) → table-items-lts.Need-prevreg-requir
   fields-of-reads.Learnt,
   push-at-reads.Asked,
   push-at-reads.Learnt,
-  table-items-below t,
-  table-items.Post,
-) (table-items-at t) table-items.Post
+) (table-items-at t) table-items.Post table-items-Inv-loop table-items-μ-loop
 table-items-prevreg-requires t c κs = search needs
 
 table-items-fields-of-requires : (t : ℕ) → table-items-lts.Need-fields-of-requires (
@@ -3070,9 +3080,7 @@ table-items-fields-of-requires : (t : ℕ) → table-items-lts.Need-fields-of-re
   fields-of-reads.Learnt,
   push-at-reads.Asked,
   push-at-reads.Learnt,
-  table-items-below t,
-  table-items.Post,
-) (table-items-at t) table-items.Post
+) (table-items-at t) table-items.Post table-items-Inv-loop table-items-μ-loop
 table-items-fields-of-requires t c κs = search needs
 
 table-items-push-at-requires : (t : ℕ) → table-items-lts.Need-push-at-requires (
@@ -3086,14 +3094,14 @@ table-items-push-at-requires : (t : ℕ) → table-items-lts.Need-push-at-requir
   fields-of-reads.Learnt,
   push-at-reads.Asked,
   push-at-reads.Learnt,
-  table-items-below t,
-  table-items.Post,
-) (table-items-at t) table-items.Post
+) (table-items-at t) table-items.Post table-items-Inv-loop table-items-μ-loop
 table-items-push-at-requires t c κs =
-    let a = c .before .before .before .before .before .before .before .before .before .before .before .before .before .args in
-    item-ready (a .n) (a .x) (a .contents .now) (a .bodies .now) (a .p) (c .before .before .before .before .before .before .before .pass .ensures) (c .before .before .before .before .before .expr-at .ensures) (c .before .before .before .before .before .before .before .before .before .if1 .left) (c .before .before .before .before .before .before .before .before .before .before .before .before .before .pre .1)
+    let a = c .before .before .before .before .before .before .before .before .before .before .before .before .before .before .args in
+    let l = c .before .before .before .before .before .before .before .before .before .before .loop in
+    let z : l .more ≡ 0 → ⊥ = λ e. omega (arith, e) in
+    item-ready (l .more) (a .x) (a .contents .now) (a .bodies .now) (l .q) (c .before .before .before .before .before .before .before .pass .ensures) (c .before .before .before .before .before .expr-at .ensures) z (l .inv .1 .reads)
 
-table-items-sub-table-items : (t : ℕ) → table-items-lts.Need-sub-table-items (
+table-items-sub-more : (t : ℕ) → table-items-lts.Need-sub-more (
   pass-reads.Asked,
   pass-reads.Learnt,
   expr-at-below t,
@@ -3104,12 +3112,10 @@ table-items-sub-table-items : (t : ℕ) → table-items-lts.Need-sub-table-items
   fields-of-reads.Learnt,
   push-at-reads.Asked,
   push-at-reads.Learnt,
-  table-items-below t,
-  table-items.Post,
-) (table-items-at t) table-items.Post
-table-items-sub-table-items t c = search needs
+) (table-items-at t) table-items.Post table-items-Inv-loop table-items-μ-loop
+table-items-sub-more t c = omega arith
 
-table-items-table-items-requires : (t : ℕ) → table-items-lts.Need-table-items-requires (
+table-items-loop-less : (t : ℕ) → table-items-lts.Need-loop-less (
   pass-reads.Asked,
   pass-reads.Learnt,
   expr-at-below t,
@@ -3120,14 +3126,31 @@ table-items-table-items-requires : (t : ℕ) → table-items-lts.Need-table-item
   fields-of-reads.Learnt,
   push-at-reads.Asked,
   push-at-reads.Learnt,
-  table-items-below t,
-  table-items.Post,
-) (table-items-at t) table-items.Post
-table-items-table-items-requires t c κs =
+) (table-items-at t) table-items.Post table-items-Inv-loop table-items-μ-loop
+table-items-loop-less t c = omega arith
+
+table-items-loop-again : (t : ℕ) → table-items-lts.Need-loop-again (
+  pass-reads.Asked,
+  pass-reads.Learnt,
+  expr-at-below t,
+  expr-at′.Post,
+  prevreg-reads.Asked,
+  prevreg-reads.Learnt,
+  fields-of-reads.Asked,
+  fields-of-reads.Learnt,
+  push-at-reads.Asked,
+  push-at-reads.Learnt,
+) (table-items-at t) table-items.Post table-items-Inv-loop table-items-μ-loop
+table-items-loop-again t c =
     let a = c .before .before .before .before .before .before .before .before .before .before .before .before .before .before .before .before .before .args in
-    let z : a .n ≡ suc (a .n - 1) = omega (arith, c .before .before .before .before .before .before .before .before .before .before .before .before .before .if1 .left) in
-    let q = item-next (a .n) (a .x) (a .contents .now) (a .bodies .now) (a .p) (c .before .before .before .before .before .before .before .before .before .before .before .pass .ensures) (c .before .before .before .before .before .before .before .before .before .expr-at .ensures) (rw (c .before .before .before .before .before .before .prevreg .ensures) at (c .before .before .before .before .before .fields-of .ensures)) (c .before .before .before .push-at .ensures) z (c .before .before .before .before .before .before .before .before .before .before .before .before .before .before .before .before .before .pre .1) in
-    (omega (arith, c .before .before .before .before .before .before .before .before .before .before .before .before .before .before .before .before .before .pre .0, q .0, q .1 .cont), q .1)
+    let l = c .before .before .before .before .before .before .before .before .before .before .before .before .before .loop in
+    let h = c .before .before .before .before .before .before .before .before .before .before .pass .ensures in
+    let g = c .before .before .before .before .before .before .before .before .expr-at .ensures in
+    let f = rw (c .before .before .before .before .before .prevreg .ensures) at (c .before .before .before .before .fields-of .ensures) in
+    let u = c .before .before .push-at .ensures in
+    let z : l .more ≡ suc (l .more - 1) = omega (arith, c .before .before .before .before .before .before .before .before .before .before .before .before .loop-test .taken) in
+    let n = item-next (l .more) (a .x) (a .contents .now) (a .bodies .now) (l .q) h g f u z (l .inv .1 .reads) in
+    (search needs, left-turn (l .inv .1) (omega (arith, n .0)) (n .1) (λ r d x. item-goes (l .more) (a .x) (a .contents .now) (a .bodies .now) (l .q) h g f u z x))
 
 table-items-same-length : (t : ℕ) → table-items-lts.Need-same-length (
   pass-reads.Asked,
@@ -3140,12 +3163,10 @@ table-items-same-length : (t : ℕ) → table-items-lts.Need-same-length (
   fields-of-reads.Learnt,
   push-at-reads.Asked,
   push-at-reads.Learnt,
-  table-items-below t,
-  table-items.Post,
-) (table-items-at t) table-items.Post
-table-items-same-length t c = search needs
+) (table-items-at t) table-items.Post table-items-Inv-loop table-items-μ-loop
+table-items-same-length t c = c .before .loop .inv .0
 
-table-items-returns-2 : (t : ℕ) → table-items-lts.Need-returns-2 (
+table-items-returns : (t : ℕ) → table-items-lts.Need-returns (
   pass-reads.Asked,
   pass-reads.Learnt,
   expr-at-below t,
@@ -3156,13 +3177,8 @@ table-items-returns-2 : (t : ℕ) → table-items-lts.Need-returns-2 (
   fields-of-reads.Learnt,
   push-at-reads.Asked,
   push-at-reads.Learnt,
-  table-items-below t,
-  table-items.Post,
-) (table-items-at t) table-items.Post
-table-items-returns-2 t c =
-    let a = c .before .before .before .before .before .before .before .before .before .before .before .before .before .before .before .before .before .before .before .before .args in
-    let z : a .n ≡ suc (a .n - 1) = omega (arith, c .before .before .before .before .before .before .before .before .before .before .before .before .before .before .before .before .if1 .left) in
-    item-goes (a .n) (a .x) (a .contents .now) (a .bodies .now) (a .p) (c .before .before .before .before .before .before .before .before .before .before .before .before .before .before .pass .ensures) (c .before .before .before .before .before .before .before .before .before .before .before .before .expr-at .ensures) (rw (c .before .before .before .before .before .before .before .before .before .prevreg .ensures) at (c .before .before .before .before .before .before .before .before .fields-of .ensures)) (c .before .before .before .before .before .before .push-at .ensures) z (c .before .before .table-items .ensures)
+) (table-items-at t) table-items.Post table-items-Inv-loop table-items-μ-loop
+table-items-returns t c = left-end (c .before .loop .inv .1) (items-none (omega arith))
 
 unop-shared-slice-read-kind : (t : ℕ) → unop-lts.Need-shared-slice-read-kind (
   start-reads.Asked,
@@ -3665,20 +3681,21 @@ pub +arrayaccess+arraymutexpr+assign+assign-at+binarg+binarg-at+binop+expr+expr-
       fields-of-reads.Learnt,
       push-at-reads.Asked,
       push-at-reads.Learnt,
-      params-below t,
-      params.Post,
     )
     (params-at t)
     params.Post
-    (params-returns t)
+    params-Inv-loop
+    params-μ-loop
+    (params-loop-holds t)
     (params-expr-at-requires t)
     (params-prevreg-requires t)
     (params-fields-of-requires t)
     (params-push-at-requires t)
-    (params-sub-params t)
-    (params-params-requires t)
+    (params-sub-more t)
+    (params-loop-less t)
+    (params-loop-again t)
     (params-same-length t)
-    (params-returns-2 t))
+    (params-returns t))
     (λ t. table-items-lts.spec (
       pass-reads.Asked,
       pass-reads.Learnt,
@@ -3690,22 +3707,23 @@ pub +arrayaccess+arraymutexpr+assign+assign-at+binarg+binarg-at+binop+expr+expr-
       fields-of-reads.Learnt,
       push-at-reads.Asked,
       push-at-reads.Learnt,
-      table-items-below t,
-      table-items.Post,
     )
     (table-items-at t)
     table-items.Post
-    (table-items-returns t)
+    table-items-Inv-loop
+    table-items-μ-loop
+    (table-items-loop-holds t)
     (table-items-shared-slice-read-key t)
     (table-items-pass-requires t)
     (table-items-expr-at-requires t)
     (table-items-prevreg-requires t)
     (table-items-fields-of-requires t)
     (table-items-push-at-requires t)
-    (table-items-sub-table-items t)
-    (table-items-table-items-requires t)
+    (table-items-sub-more t)
+    (table-items-loop-less t)
+    (table-items-loop-again t)
     (table-items-same-length t)
-    (table-items-returns-2 t))
+    (table-items-returns t))
     (λ t. unop-lts.spec (
       start-reads.Asked,
       start-reads.Learnt,

@@ -1,6 +1,8 @@
 use borrow.Author.Needs.{needs}
-use mathlib.Core.Path.{refl}
-use Rattle.lower.specs.CompileLaws.{first-ready, refused-gives, second-ready, tables-ask, compiled-gives, cleared-long}
+use native.Mathlib.Omega.{arith}
+use mathlib.Core.Path.{refl, sym, _∙_}
+use Rattle.lower.specs.Compile.{onePass}
+use Rattle.lower.specs.CompileLaws.{one-ready, one-number, one-refused, one-asks, one-gives, pass-long, pass-cleared}
 use Rattle.lower.proofs.compile.Statement.{statement}
 use Rattle.lower.proofs.compile.Tie as tie
 
@@ -9,58 +11,65 @@ lower-tree-requires c κs =
     let s = c .before .before .before .before in
     let t = s .pre .0 .0 in
     let sp = s .pre .0 .1 in
-    let rest = s .pre .1 .0 in
-    let b = s .args .program .now in
-    (first-ready t rest b (sp .within) (sp .few) (s .pre .1 .1), (t, sp .within, sp .few, sp .contents, sp .parts, sp .numbers))
+    (one-ready t (s .pre .1 .0) (s .args .program .now) (sp .within) (sp .few) (s .pre .1 .1), (t, sp .within, sp .few, sp .contents, sp .parts, sp .numbers))
 
 same-length : tie.Need-same-length
 same-length c = search needs
 
 returns : tie.Need-returns
 returns c t rest sp z =
-    let s = c .before .before .before .before .before .before .before .before .before in
-    refused-gives t rest (s .args .program .now) (sp .within) (sp .few) z _ _ (c .before .before .before .before .lower-tree .ensures t (sp .within) (sp .few) (sp .contents) (sp .parts) (sp .numbers) refl) (c .if1 .taken)
+    let did = c .before .before .before .before .lower-tree .ensures t (sp .within) (sp .few) (sp .contents) (sp .parts) (sp .numbers) refl in
+    one-refused t rest (c .before .before .before .before .before .before .before .before .before .args .program .now) (sp .within) (sp .few) z _ _ did (c .if1 .taken)
 
-lower-tree-requires-2 : tie.Need-lower-tree-requires-2
-lower-tree-requires-2 c κs =
-    let s = c .before .before .before .before .before .before .before .before .before .before in
+finish-requires : tie.Need-finish-requires
+finish-requires c κs =
+    let s = c .before .before .before .before .before .before .before .before .before .before .before .before in
     let t = s .pre .0 .0 in
     let sp = s .pre .0 .1 in
-    let rest = s .pre .1 .0 in
-    let b = s .args .program .now in
-    let did = c .before .before .before .before .before .lower-tree .ensures t (sp .within) (sp .few) (sp .contents) (sp .parts) (sp .numbers) refl in
-    (second-ready t rest b (sp .within) (sp .few) (s .pre .1 .1) _ _ did (c .before .if1 .left), (t, sp .within, sp .few, sp .contents, sp .parts, sp .numbers))
-
-compute-requires : tie.Need-compute-requires
-compute-requires c κs =
-    let s = c .before .before .before .before .before .before .before .before .before .before .before .before .before .before in
-    let t = s .pre .0 .0 in
-    let sp = s .pre .0 .1 in
-    let rest = s .pre .1 .0 in
-    let b = s .args .program .now in
-    let did = c .before .before .before .before .before .before .before .before .before .lower-tree .ensures t (sp .within) (sp .few) (sp .contents) (sp .parts) (sp .numbers) refl in
-    let did₂ = c .before .before .before .lower-tree2 .ensures t (sp .within) (sp .few) (sp .contents) (sp .parts) (sp .numbers) refl in
-    let o = c .before .before .before .before .before .if1 .left in
-    let a = tables-ask t rest b (sp .within) (sp .few) (s .pre .1 .1) _ _ did o _ _ did₂ in
+    let did = c .before .before .before .before .before .before .before .lower-tree .ensures t (sp .within) (sp .few) (sp .contents) (sp .parts) (sp .numbers) refl in
+    let a = one-asks t (s .pre .1 .0) (s .args .program .now) (sp .within) (sp .few) (s .pre .1 .1) _ _ did (c .before .before .before .if1 .left) (c .before .if2 .taken) in
     ((a .long, a .few, a .labels, a .functions), (_, a .records))
-
-put-u16-requires : tie.Need-put-u16-requires
-put-u16-requires c κs = let l = cleared-long (c .before .before .before .before .before .before .before .before .before .before .before .before .before .before .before .before .before .before .pre .1 .1) in search needs
-
-put-u16-requires-2 : tie.Need-put-u16-requires-2
-put-u16-requires-2 c κs = let l = cleared-long (c .before .before .before .before .before .before .before .before .before .before .before .before .before .before .before .before .before .before .before .before .before .before .pre .1 .1) in search needs
 
 same-length-2 : tie.Need-same-length-2
 same-length-2 c = search needs
 
 returns-2 : tie.Need-returns-2
 returns-2 c t rest sp z =
-    let s = c .before .before .before .before .before .before .before .before .before .before .before .before .before .before .before .before .before .before .before .before .before .before .before .before .before in
+    let b = c .before .before .before .before .before .before .before .before .before .before .before .before .before .before .before .args .program .now in
+    let did = c .before .before .before .before .before .before .before .before .before .before .lower-tree .ensures t (sp .within) (sp .few) (sp .contents) (sp .parts) (sp .numbers) refl in
+    let o = c .before .before .before .before .before .before .if1 .left in
+    let h = c .before .before .before .before .if2 .taken in
+    one-gives t rest b (sp .within) (sp .few) z _ _ did o h _ (c .before .before .finish .ensures _ (one-asks t rest b (sp .within) (sp .few) z _ _ did o h .records))
+
+clear-requires : tie.Need-clear-requires
+clear-requires c κs =
+    let s = c .before .before .before .before .before .before .before .before .before .before .before .before in
+    let t = s .pre .0 .0 in
+    let sp = s .pre .0 .1 in
+    let did = c .before .before .before .before .before .before .before .lower-tree .ensures t (sp .within) (sp .few) (sp .contents) (sp .parts) (sp .numbers) refl in
+    (omega arith, pass-long t (s .pre .1 .0) (s .args .program .now) (sp .within) (sp .few) (s .pre .1 .1) onePass _ _ did)
+
+compile-both-requires : tie.Need-compile-both-requires
+compile-both-requires c κs =
+    let s = c .before .before .before .before .before .before .before .before .before .before .before .before .before .before .before .before in
+    let t = s .pre .0 .0 in
+    let sp = s .pre .0 .1 in
+    let rest = s .pre .1 .0 in
     let b = s .args .program .now in
-    let did = c .before .before .before .before .before .before .before .before .before .before .before .before .before .before .before .before .before .before .before .before .lower-tree .ensures t (sp .within) (sp .few) (sp .contents) (sp .parts) (sp .numbers) refl in
-    let did₂ = c .before .before .before .before .before .before .before .before .before .before .before .before .before .before .lower-tree2 .ensures t (sp .within) (sp .few) (sp .contents) (sp .parts) (sp .numbers) refl in
-    let o = c .before .before .before .before .before .before .before .before .before .before .before .before .before .before .before .before .if1 .left in
-    compiled-gives t rest b (sp .within) (sp .few) z _ _ did o _ _ did₂ _ _ _ (c .before .before .before .before .before .before .before .before .before .before .compute .ensures _ (tables-ask t rest b (sp .within) (sp .few) z _ _ did o _ _ did₂ .records)) (c .before .before .before .before .before .before .put-u16 .ensures) (c .before .before .put-u162 .ensures)
+    let z = s .pre .1 .1 in
+    let did = c .before .before .before .before .before .before .before .before .before .before .before .lower-tree .ensures t (sp .within) (sp .few) (sp .contents) (sp .parts) (sp .numbers) refl in
+    ((t, sp, sym (one-number t rest b (sp .within) (sp .few) z _ _ did) ∙ c .before .before .before .before .before .before .before .if1 .left), (rest, pass-cleared t rest b (sp .within) (sp .few) z onePass _ _ did _ (c .before .before .before .clear .ensures)))
+
+same-length-3 : tie.Need-same-length-3
+same-length-3 c = search needs
+
+returns-3 : tie.Need-returns-3
+returns-3 c t rest sp z =
+    let b = c .before .before .before .before .before .before .before .before .before .before .before .before .before .before .before .before .before .before .before .args .program .now in
+    let did = c .before .before .before .before .before .before .before .before .before .before .before .before .before .before .lower-tree .ensures t (sp .within) (sp .few) (sp .contents) (sp .parts) (sp .numbers) refl in
+    c .before .before .compile-both .ensures t rest sp
+    (sym (one-number t rest b (sp .within) (sp .few) z _ _ did) ∙ c .before .before .before .before .before .before .before .before .before .before .if1 .left)
+    (pass-cleared t rest b (sp .within) (sp .few) z onePass _ _ did _ (c .before .before .before .before .before .before .clear .ensures))
 
 pub compile-spec : {M : Type 1} → statement M
 compile-spec =
@@ -69,9 +78,10 @@ compile-spec =
     lower-tree-requires
     same-length
     returns
-    lower-tree-requires-2
-    compute-requires
-    put-u16-requires
-    put-u16-requires-2
+    finish-requires
     same-length-2
-    returns-2)
+    returns-2
+    clear-requires
+    compile-both-requires
+    same-length-3
+    returns-3)

@@ -4,9 +4,10 @@ use Prim.Native.Nat.{ℕ, _+_, _*_, _-_, _≤_}
 use native.Mathlib.Omega.{arith}
 use lib.Dec.{eqb}
 use borrow.Author.Tests.{eqb-true}
-use Rattle.program.specs.Fits.{isFn, nameOf, recordAt}
-use Rattle.program.proofs.Scan.{scan-at}
-use Rattle.program.proofs.Places.{first-byte, byte-of}
+use Rattle.records.specs.Fits.{recordAt}
+use Rattle.program.specs.Marked.{isFn, nameOf}
+use Rattle.records.proofs.Scan.{scan-at}
+use Rattle.records.proofs.Places.{first-byte, byte-of}
 use Rattle.program.proofs.Marks.{Filling, fill-first, fill-turn, fill-end, name-small}
 use Rattle.program.proofs.fill_functions.Statement.{statement}
 use Rattle.program.proofs.fill_functions.Tie as tie

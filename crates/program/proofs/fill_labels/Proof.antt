@@ -3,8 +3,9 @@ use mathlib.Core.Bool.{not}
 use lib.Dec.{ltb, eqb}
 use Prim.Native.Nat.{ℕ, _+_, _-_, _≤_}
 use native.Mathlib.Omega.{arith}
-use Rattle.program.specs.Fits.{enters, lblOf, recordAt, marked}
-use Rattle.program.proofs.Scan.{scan-at}
+use Rattle.records.specs.Fits.{recordAt}
+use Rattle.program.specs.Marked.{enters, lblOf, marked}
+use Rattle.records.proofs.Scan.{scan-at}
 use Rattle.program.proofs.Marks.{mark-length, mark-at, Filling, fill-first, fill-turn, fill-end, label-small}
 use Rattle.program.proofs.fill_labels.Statement.{statement}
 use Rattle.program.proofs.fill_labels.Tie as tie

@@ -1,7 +1,7 @@
 use mathlib.Core.Path.{_∙_}
 use Prim.Native.Nat.{_*_}
 use native.Mathlib.Omega.{arith}
-use Rattle.program.proofs.Places.{word-of}
+use Rattle.records.proofs.Places.{word-of}
 use borrow.Author.Needs.{needs}
 use Rattle.program.proofs.label.Statement.{statement}
 use Rattle.program.proofs.label.Tie as tie

@@ -5,8 +5,9 @@ use native.Mathlib.Omega.{arith}
 use lib.Dec.{eqb}
 use lib.ListN.{length, getD}
 use Rattle.lent.specs.Bytes.{beValue, part}
-use Rattle.program.specs.Fits.{scan, sameTable}
-use Rattle.program.proofs.Scan.{scan-first, scan-turn, scan-end}
+use Rattle.records.specs.Fits.{scan}
+use Rattle.program.specs.Marked.{sameTable}
+use Rattle.records.proofs.Scan.{scan-first, scan-turn, scan-end}
 use Rattle.program.proofs.same_table.Statement.{statement}
 use Rattle.program.proofs.same_table.Tie as tie
 

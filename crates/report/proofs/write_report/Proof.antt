@@ -38,7 +38,7 @@ same-length c = search needs
 returns : tie.Need-returns
 returns c =
     let o = c .before .before .before .before .before .before .before .before .args in
-    λ p a s h u v. told-done p s (o .took) (drop 48 (o .out .now)) h (c .before .before .before .before .before .enum-told .given .1) (c .before .before .before .no-stop .ensures) (c .before .before .put-fields .ensures)
+    told-done (o .start) (o .pos) (o .took) (drop 48 (o .out .now)) (c .before .before .before .before .before .enum-told .given .1) (c .before .before .before .no-stop .ensures) (c .before .before .put-fields .ensures)
 
 same-length-2 : tie.Need-same-length-2
 same-length-2 c = search needs
@@ -46,7 +46,7 @@ same-length-2 c = search needs
 returns-2 : tie.Need-returns-2
 returns-2 c =
     let o = c .before .before .before .before .before .before .before .before .before .args in
-    λ p a s h u v. told-stopped p s (o .took) (drop 48 (o .out .now)) h (c .before .before .before .before .before .before .answer .given .1) (c .before .before .before .line .result) u v (c .before .before .before .line .ensures) (c .before .before .put-fields2 .ensures)
+    told-stopped (o .start) (o .pos) (o .took) (drop 48 (o .out .now)) (c .before .before .before .before .before .before .answer .given .1) (c .before .before .before .line .result) (c .before .before .before .line .ensures) (c .before .before .put-fields2 .ensures)
 
 same-length-3 : tie.Need-same-length-3
 same-length-3 c = search needs
@@ -54,7 +54,7 @@ same-length-3 c = search needs
 returns-3 : tie.Need-returns-3
 returns-3 c =
     let o = c .before .before .before .before .before .before .before .before .args in
-    λ p a s h u v. told-spent p s (o .took) (drop 48 (o .out .now)) h (c .before .before .before .before .before .enum-told2 .given .1) (c .before .before .before .no-stop2 .ensures) (c .before .before .put-fields3 .ensures)
+    told-spent (o .start) (o .pos) (o .took) (drop 48 (o .out .now)) (c .before .before .before .before .before .enum-told2 .given .1) (c .before .before .before .no-stop2 .ensures) (c .before .before .put-fields3 .ensures)
 
 pub write-report-spec : {M : Type 1} → statement M
 write-report-spec =

@@ -1,9 +1,11 @@
 use native.Mathlib.Omega.{arith}
-use mathlib.Core.Path.{refl, ap, _∙_}
-use Prim.Native.Nat.{_+_, _-_, _*_}
+use mathlib.Core.Path.{_≡_, refl, ap, _∙_}
+use Prim.Native.Nat.{_+_, _-_, _*_, suc}
 use lib.ListN.{length, getD}
 use borrow.Author.Needs.{needs}
 use Rattle.emit.specs.declared.Done.{Done}
+use Rattle.emit.specs.Loops.{Left, left-start, left-turn, left-end}
+use Rattle.stmt.specs.Parts.{lists}
 use Rattle.stmt.specs.Kinds.{kind-here, others}
 use Rattle.stmt.specs.Simple.{stmt-room}
 use Rattle.stmt.specs.Lists.{list-none, list-first, list-falls, list-next, list-goes, body-list, body-none, body-some, block-reads, block-goes, one-fewer}
@@ -1377,53 +1379,54 @@ ifstmt-returns : (t : ℕ) → ifstmt-lts.Need-returns (
 ) (ifstmt-at t) ifstmt.Post
 ifstmt-returns t c = if-goes (c .before .before .before .before .before .before .before .before .before .before .args .contents .now) (c .before .before .before .before .before .before .before .before .before .before .args .bodies .now) (c .before .before .before .before .before .before .before .before .before .before .args .p) (c .before .before .before .before .before .before .before .before .before .before .pre .1 .1) (c .before .before .before .before .pass .ensures) (getD (c .before .before .before .before .before .before .before .before .before .before .args .bodies .now) (c .before .before .before .before .before .before .before .before .before .before .args .p .body) 0) (getD (c .before .before .before .before .before .before .before .before .before .before .args .contents .now) (c .before .before .before .before .before .before .before .before .before .before .args .p .cont + 1) 0 - 2 - getD (c .before .before .before .before .before .before .before .before .before .before .args .bodies .now) (c .before .before .before .before .before .before .before .before .before .before .args .p .body) 0) refl (omega (arith, if-counts (c .before .before .before .before .before .before .before .before .before .before .args .contents .now) (c .before .before .before .before .before .before .before .before .before .before .args .bodies .now) (c .before .before .before .before .before .before .before .before .before .before .args .p) (c .before .before .before .before .before .before .before .before .before .before .pre .1 .1) (c .before .before .before .before .before .before .before .before .before .before .pre .1 .0) .0)) (c .before .before .arm .ensures)
 
-stmts-returns : (t : ℕ) → stmts-lts.Need-returns (
-  block-below t,
-  block.Post,
-  stmts-below t,
-  stmts.Post,
-) (stmts-at t) stmts.Post
-stmts-returns t c = list-none (c .before .before .before .before .args .n) (c .if1 .taken)
+abbrev stmts-Inv-loop : stmts-lts.InvT-loop
+stmts-Inv-loop n contents bodies keep out₀ q₀ more₀ out q more = (length out ≡ length out₀) × Left (lists (q₀ .lbl) n) (lists (q .lbl) more) contents bodies keep q₀ out₀ q out
 
-stmts-block-requires : (t : ℕ) → stmts-lts.Need-block-requires (
-  block-below t,
-  block.Post,
-  stmts-below t,
-  stmts.Post,
-) (stmts-at t) stmts.Post
-stmts-block-requires t c κs = (omega (arith, c .before .before .before .before .before .pre .0), list-first (c .before .before .before .before .before .args .n) (c .before .if1 .left) (c .before .before .before .before .before .pre .1))
+abbrev stmts-μ-loop : stmts-lts.MeasureT-loop
+stmts-μ-loop n contents bodies keep out₀ q₀ more₀ out q more = more
 
-stmts-sub-stmts : (t : ℕ) → stmts-lts.Need-sub-stmts (
-  block-below t,
-  block.Post,
-  stmts-below t,
-  stmts.Post,
-) (stmts-at t) stmts.Post
-stmts-sub-stmts t c = omega (arith, one-fewer (c .before .before .before .before .before .before .before .before .args .n) (c .before .before .before .before .if1 .left))
+stmts-loop-holds :
+    (t : ℕ) →
+    stmts-lts.Need-loop-holds (block-below t, block.Post) (stmts-at t) stmts.Post stmts-Inv-loop stmts-μ-loop
+stmts-loop-holds t c = (refl, left-start (c .before .before .before .pre .1))
 
-stmts-stmts-requires : (t : ℕ) → stmts-lts.Need-stmts-requires (
-  block-below t,
-  block.Post,
-  stmts-below t,
-  stmts.Post,
-) (stmts-at t) stmts.Post
-stmts-stmts-requires t c κs = (omega (arith, c .before .before .before .before .before .before .before .before .before .pre .0, list-falls (c .before .before .before .before .before .before .before .before .before .args .n) (c .before .before .before .before .before .if1 .left) (c .before .before .before .block .ensures) (c .before .before .before .before .before .before .before .before .before .pre .1) .0, list-falls (c .before .before .before .before .before .before .before .before .before .args .n) (c .before .before .before .before .before .if1 .left) (c .before .before .before .block .ensures) (c .before .before .before .before .before .before .before .before .before .pre .1) .1), list-next (c .before .before .before .before .before .before .before .before .before .args .n) (c .before .before .before .before .before .if1 .left) (c .before .before .before .block .ensures) (c .before .before .before .before .before .before .before .before .before .args .n - 1) (one-fewer (c .before .before .before .before .before .before .before .before .before .args .n) (c .before .before .before .before .before .if1 .left)) (c .before .before .before .before .before .before .before .before .before .pre .1))
+stmts-block-requires :
+    (t : ℕ) →
+    stmts-lts.Need-block-requires (block-below t, block.Post) (stmts-at t) stmts.Post stmts-Inv-loop stmts-μ-loop
+stmts-block-requires t c κs =
+    let l = c .before .before .loop in
+    let z : l .more ≡ 0 → ⊥ = λ e. omega (arith, e) in
+    (omega (arith, c .before .before .before .before .before .before .pre .0, l .inv .1 .behind), list-first (l .more) z (l .inv .1 .reads))
 
-stmts-same-length : (t : ℕ) → stmts-lts.Need-same-length (
-  block-below t,
-  block.Post,
-  stmts-below t,
-  stmts.Post,
-) (stmts-at t) stmts.Post
-stmts-same-length t c = c .before .before .stmts .kept .1 .1 .1 .1 .1 .0 ∙ c .before .before .before .before .before .before .block .kept .1 .1 .1 .1 .0
+stmts-sub-more :
+    (t : ℕ) →
+    stmts-lts.Need-sub-more (block-below t, block.Post) (stmts-at t) stmts.Post stmts-Inv-loop stmts-μ-loop
+stmts-sub-more t c = omega arith
 
-stmts-returns-2 : (t : ℕ) → stmts-lts.Need-returns-2 (
-  block-below t,
-  block.Post,
-  stmts-below t,
-  stmts.Post,
-) (stmts-at t) stmts.Post
-stmts-returns-2 t c = list-goes (c .before .before .before .before .before .before .before .before .before .before .before .before .args .n) (c .before .before .before .before .before .before .before .before .if1 .left) (c .before .before .before .before .before .before .block .ensures) (c .before .before .before .before .before .before .before .before .before .before .before .before .args .n - 1) (one-fewer (c .before .before .before .before .before .before .before .before .before .before .before .before .args .n) (c .before .before .before .before .before .before .before .before .if1 .left)) (c .before .before .stmts .ensures)
+stmts-loop-less :
+    (t : ℕ) →
+    stmts-lts.Need-loop-less (block-below t, block.Post) (stmts-at t) stmts.Post stmts-Inv-loop stmts-μ-loop
+stmts-loop-less t c = omega arith
+
+stmts-loop-again :
+    (t : ℕ) →
+    stmts-lts.Need-loop-again (block-below t, block.Post) (stmts-at t) stmts.Post stmts-Inv-loop stmts-μ-loop
+stmts-loop-again t c =
+    let l = c .before .before .before .before .before .loop in
+    let z : l .more ≡ 0 → ⊥ = λ e. omega (arith, e) in
+    let g = c .before .before .block .ensures in
+    let s : suc (l .more - 1) ≡ l .more = omega arith in
+    (search needs, left-turn (l .inv .1) (omega (arith, list-falls (l .more) z g (l .inv .1 .reads) .0)) (list-next (l .more) z g (l .more - 1) s (l .inv .1 .reads)) (λ r d x. list-goes (l .more) z g (l .more - 1) s x))
+
+stmts-same-length :
+    (t : ℕ) →
+    stmts-lts.Need-same-length (block-below t, block.Post) (stmts-at t) stmts.Post stmts-Inv-loop stmts-μ-loop
+stmts-same-length t c = c .before .loop .inv .0
+
+stmts-returns :
+    (t : ℕ) →
+    stmts-lts.Need-returns (block-below t, block.Post) (stmts-at t) stmts.Post stmts-Inv-loop stmts-μ-loop
+stmts-returns t c = left-end (c .before .loop .inv .1) (list-none (c .before .loop .more) (omega arith))
 
 pub +arm+block+blocks+elif+fndecl+forstmt+ifstmt+stmts-spec : {M : Type 1} → statement M
 +arm+block+blocks+elif+fndecl+forstmt+ifstmt+stmts-spec =
@@ -1593,12 +1596,15 @@ pub +arm+block+blocks+elif+fndecl+forstmt+ifstmt+stmts-spec : {M : Type 1} → s
     (ifstmt-same-length t)
     (ifstmt-returns t))
     λ t. stmts-lts.spec
-    (block-below t, block.Post, stmts-below t, stmts.Post)
+    (block-below t, block.Post)
     (stmts-at t)
     stmts.Post
-    (stmts-returns t)
+    stmts-Inv-loop
+    stmts-μ-loop
+    (stmts-loop-holds t)
     (stmts-block-requires t)
-    (stmts-sub-stmts t)
-    (stmts-stmts-requires t)
+    (stmts-sub-more t)
+    (stmts-loop-less t)
+    (stmts-loop-again t)
     (stmts-same-length t)
-    (stmts-returns-2 t)
+    (stmts-returns t)

@@ -1,0 +1,280 @@
+use native.Mathlib.Omega.{arith}
+use Prim.Native.Nat.{_+_, _*_}
+use lib.ListN.{drop}
+use borrow.Author.Needs.{needs}
+use Rattle.bound.specs.Weights as Rule
+use Rattle.bound.proofs.Steps.{Going, begins, turn, finish, stops, short, goes, counts-small}
+use Prim.Native.Nat.{ℕ, _<_}
+use borrow.Fn.Kinds.{In}
+use borrow.Fn.PlainCycle.{Measures, is, falls, and}
+use Rattle.bound.proofs.children.Reads as children
+use Rattle.bound.proofs.children.Kinds as children-kinds
+use Rattle.bound.proofs.+children+subtree.Lts-children as children-lts
+use Rattle.bound.proofs.subtree.Reads as subtree
+use Rattle.bound.proofs.subtree.Kinds as subtree-kinds
+use Rattle.bound.proofs.+children+subtree.Lts-subtree as subtree-lts
+use Rattle.bound.proofs.whole.Reads as whole-reads
+use Rattle.lent.proofs.wide.Reads as wide-reads
+use Rattle.bound.proofs.+children+subtree.{statement}
+use Rattle.bound.proofs.+children+subtree.Tie.{close}
+
+abbrev μ-children : Measures 1 children-kinds.ps ℕ
+μ-children κs a = 2 * a .0 + 1
+
+abbrev μ-subtree : Measures 1 subtree-kinds.ps ℕ
+μ-subtree κs a = 2 * a .0
+
+abbrev children-at : ℕ → In 1 children-kinds.ps
+children-at t = and 1 children-kinds.ps (is 1 children-kinds.ps μ-children t) children.Pre
+
+abbrev children-below : ℕ → In 1 children-kinds.ps
+children-below t =
+    and 1 children-kinds.ps (falls 1 children-kinds.ps _<_ μ-children t) children.Pre
+
+abbrev subtree-at : ℕ → In 1 subtree-kinds.ps
+subtree-at t = and 1 subtree-kinds.ps (is 1 subtree-kinds.ps μ-subtree t) subtree.Pre
+
+abbrev subtree-below : ℕ → In 1 subtree-kinds.ps
+subtree-below t = and 1 subtree-kinds.ps (falls 1 subtree-kinds.ps _<_ μ-subtree t) subtree.Pre
+
+abbrev children-Inv-loop : children-lts.InvT-loop
+children-Inv-loop depth l under count entries at next₀ cost₀ more₀ next cost more = Going entries (Rule.times (λ es. Rule.subtree depth l under es) count (drop at entries)) (Rule.times (λ es. Rule.subtree depth l under es) more (drop next entries)) next cost
+
+abbrev children-μ-loop : children-lts.MeasureT-loop
+children-μ-loop depth l under count entries at next₀ cost₀ more₀ next cost more = more
+
+children-loop-holds :
+    (t : ℕ) →
+    children-lts.Need-loop-holds
+    (subtree-below t, subtree.Post)
+    (children-at t)
+    children.Post
+    children-Inv-loop
+    children-μ-loop
+children-loop-holds t c = begins _ (c .before .pre .1 .2)
+
+children-subtree-requires : (t : ℕ) → children-lts.Need-subtree-requires (
+  subtree-below t,
+  subtree.Post,
+) (children-at t) children.Post children-Inv-loop children-μ-loop
+children-subtree-requires t c κs = let s = c .before .before .before in (omega (arith, s .pre .0), (s .pre .1 .0, s .pre .1 .1, c .before .loop .inv .inside))
+
+children-add-cost :
+    (t : ℕ) →
+    children-lts.Need-add-cost
+    (subtree-below t, subtree.Post)
+    (children-at t)
+    children.Post
+    children-Inv-loop
+    children-μ-loop
+children-add-cost t c = omega (arith, c .before .before .before .loop .inv .small, counts-small (c .before .subtree .ensures))
+
+children-sub-more :
+    (t : ℕ) →
+    children-lts.Need-sub-more
+    (subtree-below t, subtree.Post)
+    (children-at t)
+    children.Post
+    children-Inv-loop
+    children-μ-loop
+children-sub-more t c = omega arith
+
+children-loop-less :
+    (t : ℕ) →
+    children-lts.Need-loop-less
+    (subtree-below t, subtree.Post)
+    (children-at t)
+    children.Post
+    children-Inv-loop
+    children-μ-loop
+children-loop-less t c = omega arith
+
+children-loop-again :
+    (t : ℕ) →
+    children-lts.Need-loop-again
+    (subtree-below t, subtree.Post)
+    (children-at t)
+    children.Post
+    children-Inv-loop
+    children-μ-loop
+children-loop-again t c = turn _ (c .before .before .before .loop .more) (c .before .before .loop-test .taken) (c .before .before .before .loop .inv) (c .before .subtree .ensures)
+
+children-returns :
+    (t : ℕ) →
+    children-lts.Need-returns
+    (subtree-below t, subtree.Post)
+    (children-at t)
+    children.Post
+    children-Inv-loop
+    children-μ-loop
+children-returns t c = finish _ (c .before .loop .more) (omega arith) (c .before .loop .inv)
+
+subtree-returns : (t : ℕ) → subtree-lts.Need-returns (
+  wide-reads.Asked,
+  wide-reads.Learnt,
+  children-below t,
+  children.Post,
+  whole-reads.Asked,
+  whole-reads.Learnt,
+) (subtree-at t) subtree.Post
+subtree-returns t c = let s = c .before .before in stops _ (s .args .depth) _ _ _ (c .if1 .taken) (s .pre .1 .2)
+
+subtree-add-if2 : (t : ℕ) → subtree-lts.Need-add-if2 (
+  wide-reads.Asked,
+  wide-reads.Learnt,
+  children-below t,
+  children.Post,
+  whole-reads.Asked,
+  whole-reads.Learnt,
+) (subtree-at t) subtree.Post
+subtree-add-if2 t c = omega (arith, c .before .before .pre .1 .2)
+
+subtree-returns-2 : (t : ℕ) → subtree-lts.Need-returns-2 (
+  wide-reads.Asked,
+  wide-reads.Learnt,
+  children-below t,
+  children.Post,
+  whole-reads.Asked,
+  whole-reads.Learnt,
+) (subtree-at t) subtree.Post
+subtree-returns-2 t c = let s = c .before .before .before in short _ (s .args .depth) _ _ _ (c .if2 .taken) (s .pre .1 .2)
+
+subtree-shared-slice-read-wide : (t : ℕ) → subtree-lts.Need-shared-slice-read-wide (
+  wide-reads.Asked,
+  wide-reads.Learnt,
+  children-below t,
+  children.Post,
+  whole-reads.Asked,
+  whole-reads.Learnt,
+) (subtree-at t) subtree.Post
+subtree-shared-slice-read-wide t c = omega arith
+
+subtree-wide-requires : (t : ℕ) → subtree-lts.Need-wide-requires (
+  wide-reads.Asked,
+  wide-reads.Learnt,
+  children-below t,
+  children.Post,
+  whole-reads.Asked,
+  whole-reads.Learnt,
+) (subtree-at t) subtree.Post
+subtree-wide-requires t c κs = search needs
+
+subtree-add-wide : (t : ℕ) → subtree-lts.Need-add-wide (
+  wide-reads.Asked,
+  wide-reads.Learnt,
+  children-below t,
+  children.Post,
+  whole-reads.Asked,
+  whole-reads.Learnt,
+) (subtree-at t) subtree.Post
+subtree-add-wide t c = omega arith
+
+subtree-shared-slice-read-wide-2 : (t : ℕ) → subtree-lts.Need-shared-slice-read-wide-2 (
+  wide-reads.Asked,
+  wide-reads.Learnt,
+  children-below t,
+  children.Post,
+  whole-reads.Asked,
+  whole-reads.Learnt,
+) (subtree-at t) subtree.Post
+subtree-shared-slice-read-wide-2 t c = omega arith
+
+subtree-wide-requires-2 : (t : ℕ) → subtree-lts.Need-wide-requires-2 (
+  wide-reads.Asked,
+  wide-reads.Learnt,
+  children-below t,
+  children.Post,
+  whole-reads.Asked,
+  whole-reads.Learnt,
+) (subtree-at t) subtree.Post
+subtree-wide-requires-2 t c κs = search needs
+
+subtree-sub-children : (t : ℕ) → subtree-lts.Need-sub-children (
+  wide-reads.Asked,
+  wide-reads.Learnt,
+  children-below t,
+  children.Post,
+  whole-reads.Asked,
+  whole-reads.Learnt,
+) (subtree-at t) subtree.Post
+subtree-sub-children t c = omega arith
+
+subtree-add-children : (t : ℕ) → subtree-lts.Need-add-children (
+  wide-reads.Asked,
+  wide-reads.Learnt,
+  children-below t,
+  children.Post,
+  whole-reads.Asked,
+  whole-reads.Learnt,
+) (subtree-at t) subtree.Post
+subtree-add-children t c = omega arith
+
+subtree-children-requires : (t : ℕ) → subtree-lts.Need-children-requires (
+  wide-reads.Asked,
+  wide-reads.Learnt,
+  children-below t,
+  children.Post,
+  whole-reads.Asked,
+  whole-reads.Learnt,
+) (subtree-at t) subtree.Post
+subtree-children-requires t c κs = let s = c .before .before .before .before .before .before .before in (omega (arith, s .pre .0, c .before .before .before .before .before .if1 .left), (s .pre .1 .0, s .pre .1 .1, c .before .before .before .before .if2 .left))
+
+subtree-whole-requires : (t : ℕ) → subtree-lts.Need-whole-requires (
+  wide-reads.Asked,
+  wide-reads.Learnt,
+  children-below t,
+  children.Post,
+  whole-reads.Asked,
+  whole-reads.Learnt,
+) (subtree-at t) subtree.Post
+subtree-whole-requires t c κs = (c .before .before .before .before .before .before .before .before .pre .1 .0, counts-small (c .children .ensures))
+
+subtree-returns-3 : (t : ℕ) → subtree-lts.Need-returns-3 (
+  wide-reads.Asked,
+  wide-reads.Learnt,
+  children-below t,
+  children.Post,
+  whole-reads.Asked,
+  whole-reads.Learnt,
+) (subtree-at t) subtree.Post
+subtree-returns-3 t c = let s = c .before .before .before .before .before .before .before .before .before in goes _ (s .args .depth) _ _ _ (omega (arith, c .before .before .before .before .before .before .before .if1 .left)) (c .before .before .before .before .before .before .if2 .left) (c .before .before .before .before .wide .ensures .0) (c .before .before .wide2 .ensures .0) (c .before .children .ensures) (c .whole .ensures)
+
+pub +children+subtree-spec : {M : Type 1} → statement M
++children+subtree-spec = close μ-children μ-subtree (λ t. children-lts.spec (
+  subtree-below t,
+  subtree.Post,
+)
+    (children-at t)
+    children.Post
+    children-Inv-loop
+    children-μ-loop
+    (children-loop-holds t)
+    (children-subtree-requires t)
+    (children-add-cost t)
+    (children-sub-more t)
+    (children-loop-less t)
+    (children-loop-again t)
+    (children-returns t))
+    λ t. subtree-lts.spec (
+      wide-reads.Asked,
+      wide-reads.Learnt,
+      children-below t,
+      children.Post,
+      whole-reads.Asked,
+      whole-reads.Learnt,
+    )
+    (subtree-at t)
+    subtree.Post
+    (subtree-returns t)
+    (subtree-add-if2 t)
+    (subtree-returns-2 t)
+    (subtree-shared-slice-read-wide t)
+    (subtree-wide-requires t)
+    (subtree-add-wide t)
+    (subtree-shared-slice-read-wide-2 t)
+    (subtree-wide-requires-2 t)
+    (subtree-sub-children t)
+    (subtree-add-children t)
+    (subtree-children-requires t)
+    (subtree-whole-requires t)
+    (subtree-returns-3 t)

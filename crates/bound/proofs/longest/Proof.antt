@@ -1,0 +1,84 @@
+use mathlib.Core.Path.{_≡_}
+use Prim.Native.Nat.{_-_, _≤_, _<_, max}
+use native.Mathlib.Omega.{arith}
+use lib.ListN.{length, drop}
+use borrow.Author.Needs.{needs}
+use Rattle.bound.specs.Weights as Rule
+use Rattle.bound.proofs.Steps.{longest-end, longest-turn, longer-small}
+use Rattle.bound.proofs.longest.Statement.{statement}
+use Rattle.bound.proofs.longest.Tie as tie
+
+abbrev Inv-loop : tie.InvT-loop
+Inv-loop entries most₀ i₀ most i = (i ≤ length entries) × (most < 256) × (Rule.longest entries ≡ max most (Rule.longest (drop i entries)))
+
+abbrev μ-loop : tie.MeasureT-loop
+μ-loop entries most₀ i₀ most i = length entries - i
+
+loop-holds : tie.Need-loop-holds Inv-loop μ-loop
+loop-holds c = (omega arith, omega arith, omega arith)
+
+add-loop : tie.Need-add-loop Inv-loop μ-loop
+add-loop c = omega arith
+
+shared-slice-read-wide : tie.Need-shared-slice-read-wide Inv-loop μ-loop
+shared-slice-read-wide c = omega arith
+
+wide-requires : tie.Need-wide-requires Inv-loop μ-loop
+wide-requires c κs = search needs
+
+add-wide : tie.Need-add-wide Inv-loop μ-loop
+add-wide c = omega arith
+
+shared-slice-read-wide-2 : tie.Need-shared-slice-read-wide-2 Inv-loop μ-loop
+shared-slice-read-wide-2 c = omega arith
+
+wide-requires-2 : tie.Need-wide-requires-2 Inv-loop μ-loop
+wide-requires-2 c κs = search needs
+
+items-requires : tie.Need-items-requires Inv-loop μ-loop
+items-requires c κs = search needs
+
+larger-requires : tie.Need-larger-requires Inv-loop μ-loop
+larger-requires c κs = search needs
+
+add-i : tie.Need-add-i Inv-loop μ-loop
+add-i c = omega arith
+
+loop-less : tie.Need-loop-less Inv-loop μ-loop
+loop-less c = omega arith
+
+loop-again : tie.Need-loop-again Inv-loop μ-loop
+loop-again c =
+    let l = c .before .before .before .before .before .before .before .loop in
+    let w = c .before .before .wide2 .ensures in
+    let x = c .before .items .ensures in
+    let r = c .larger .ensures in (
+      omega arith,
+      longer-small (l .most) (c .before .before .before .before .wide .result) (c .before .before .wide2 .result) (l .inv .1) (w .1) x r,
+      longest-turn (c .before .before .before .before .before .before .before .before .before .args .entries .now) (l .most) (l .i) (c .before .before .before .before .wide .result) (c .before .before .wide2 .result) (c .before .before .before .before .before .before .loop-test .taken) (c .before .before .before .before .wide .ensures .0) (w .0) x r (l .inv .2),
+    )
+
+returns : tie.Need-returns Inv-loop μ-loop
+returns c =
+    let l = c .before .loop in
+    (omega (arith, l .inv .2, longest-end (c .before .before .before .args .entries .now) (l .i) (omega arith)), l .inv .1)
+
+pub longest-spec : {M : Type 1} → statement M
+longest-spec =
+    tie.close
+    (tie.spec
+    Inv-loop
+    μ-loop
+    loop-holds
+    add-loop
+    shared-slice-read-wide
+    wide-requires
+    add-wide
+    shared-slice-read-wide-2
+    wide-requires-2
+    items-requires
+    larger-requires
+    add-i
+    loop-less
+    loop-again
+    returns)

@@ -1,0 +1,4 @@
+pub mod ProgramText
+pub mod Told
+pub mod ToldLaws
+pub mod TextLaws

@@ -1,0 +1,15 @@
+use borrow.Author.Needs.{needs}
+use Rattle.records.proofs.kind_ok.Statement.{statement}
+use Rattle.records.proofs.kind_ok.Tie as tie
+
+wide-requires : tie.Need-wide-requires
+wide-requires c κs = search needs
+
+wide-requires-2 : tie.Need-wide-requires-2
+wide-requires-2 c κs = search needs
+
+returns : tie.Need-returns
+returns c = rw (c .before .wide .ensures .0, c .wide2 .ensures .0)
+
+pub kind-ok-spec : {M : Type 1} → statement M
+kind-ok-spec = tie.close (tie.spec wide-requires wide-requires-2 returns)

@@ -1,0 +1,2 @@
+pub mod SlotText
+pub mod SlotTextLaws
