@@ -5,7 +5,8 @@ ghost use lib.Ieee as Ieee;
 ghost use lib.Ieee.{binary64};
 ghost use Rattle.numeric.specs.Index.{indexOf};
 ghost use Rattle.numeric.specs.Patterns.{bitsOf};
-ghost use Rattle.numeric.specs.Fields.{infinity, significand, exponent, units};
+ghost use Rattle.numeric.specs.Fields.{leading, infinity, significand, exponent, units};
+ghost use Rattle.numeric.specs.Reciprocal.{Reciprocal};
 ghost use Rattle.numeric.specs.Remainder as Rule;
 
 // The weights of a pattern's leading digit and of its sign, and the pattern of an infinity.
@@ -16,6 +17,9 @@ const SIGN: u64 = 0x8000_0000_0000_0000;
 const INFINITY: u64 = 0x7ff0_0000_0000_0000;
 
 const NAN: u64 = 0x7ff8_0000_0000_0000;
+
+// 2^27: a factor is cut into digits below and above it.
+const HALF: u64 = 134217728;
 
 // The index from a number: a NaN and a negative number give 0, a fraction is cut, and 2^64 and
 // above give 2^64 - 1.
@@ -99,6 +103,74 @@ fn reduced(m: u64, n: u64, s: u64) -> u64
     (r << left) % n
 }
 
+// 2^84 / n, a little too small.
+fn reciprocal_of(n: u64) -> u64
+    requires { ⌜ (leading ≤ n) × (n < 2 ^ 53) ⌝ }
+    ensures { λ v. ⌜ Reciprocal n v ⌝ }
+{
+    SIGN / (n / 2097152 + 1)
+}
+
+// A number with the remainder of r * 2^27 by n: r * 2^27 less a multiple of n, by a quotient that is
+// the exact one or a little less.
+fn shifted(r: u64, n: u64, v: u64) -> u64
+    requires { ⌜ (r < 2 ^ 58) × Reciprocal n v ⌝ }
+    ensures { λ x. ⌜ (x % n ≡ r * 2 ^ 27 % n) × (x < 3 * 2 ^ 54) ⌝ }
+{
+    let q = r / 67108864 * v / 2147483648;
+    (r - q * (n / HALF)) * HALF - q * (n % HALF)
+}
+
+// A number with the remainder of a * b by n, below the same end as a and b.
+fn product(a: u64, b: u64, n: u64, v: u64) -> u64
+    requires { ⌜ (a < 2 ^ 56) × (b < 2 ^ 56) × Reciprocal n v ⌝ }
+    ensures { λ x. ⌜ (x % n ≡ a * b % n) × (x < 2 ^ 56) ⌝ }
+{
+    let high = shifted(a / HALF * (b / HALF), n, v);
+    let middle = a / HALF * (b % HALF) + a % HALF * (b / HALF);
+    shifted(high + middle, n, v) + a % HALF * (b % HALF)
+}
+
+// A number with the remainder of 2^(c * 2^k) by n: 2^c squared k times.
+fn power(c: u64, k: u64, n: u64, v: u64) -> u64
+    requires { ⌜ (c < 56) × Reciprocal n v ⌝ }
+    ensures { λ x. ⌜ (x % n ≡ 2 ^ (c * 2 ^ k) % n) × (x < 2 ^ 56) ⌝ }
+{
+    let mut x: u64 = 1 << c;
+    let mut i = 0;
+    while i < k {
+        x = product(x, x, n, v);
+        i += 1;
+    }
+    x
+}
+
+// The remainder of m * 2^s by n, for a large s and an n with a leading digit: 2^s is a power of 2
+// squared, with c from 28 to 55, times what is left.
+fn far(m: u64, n: u64, s: u64) -> u64
+    requires { ⌜ (m < 2 ^ 53) × (leading ≤ n) × (n < 2 ^ 53) × (28 ≤ s) ⌝ }
+    ensures { λ r. ⌜ r ≡ m * 2 ^ s % n ⌝ }
+{
+    let v = reciprocal_of(n);
+    let k = 61 - u64::leading_zeros(s / 7) as u64;
+    let c = s >> k;
+    let x = power(c, k, n, v);
+    let y = reduced(m, n, s - (c << k));
+    product(x, y, n, v) % n
+}
+
+// The remainder of m * 2^s by n.
+fn remainder_of(m: u64, n: u64, s: u64) -> u64
+    requires { ⌜ (m < 2 ^ 53) × (0 < n) × (n < 2 ^ 53) × (s ≤ 2045) ⌝ }
+    ensures { λ r. ⌜ r ≡ m * 2 ^ s % n ⌝ }
+{
+    if s <= 44 {
+        return reduced(m, n, s);
+    }
+    let z = u64::leading_zeros(n) as u64 - 11;
+    far(m, n << z, s + z) >> z
+}
+
 // The pattern of q * 2^k smallest numbers. The digits of q are moved up to where a significand
 // starts, as far as the exponent allows.
 fn pattern_of(q: u64, k: u64) -> u64
@@ -122,7 +194,7 @@ fn rest_of(p: u64, q: u64) -> u64
 {
     let k = exponent_of(q);
     let s = exponent_of(p) - k;
-    let r = reduced(significand_of(p), significand_of(q), s);
+    let r = remainder_of(significand_of(p), significand_of(q), s);
     pattern_of(r, k)
 }
 

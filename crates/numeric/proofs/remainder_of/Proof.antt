@@ -1,0 +1,62 @@
+-- `numeric::remainder_of` meets its contract. Assumes nothing.
+use mathlib.Core.Path.{_≡_}
+use Prim.Native.Nat.{_-_, _*_, _%_, _^_}
+use native.Mathlib.Nat.{mod-eq-of-lt}
+use native.Mathlib.Omega.{arith}
+use borrow.Author.Needs.{needs}
+use lib.Count.{leadingZeros}
+use Rattle.numeric.proofs.Units.{Moved, moved}
+use Rattle.numeric.proofs.Products.{moved-back}
+use Rattle.numeric.proofs.remainder_of.Statement.{statement}
+use Rattle.numeric.proofs.remainder_of.Tie as tie
+
+reduced-requires : tie.Need-reduced-requires
+reduced-requires c κs = search needs
+
+returns : tie.Need-returns
+returns c = search needs
+
+-- where the leading digit of n goes
+found : (c : tie.Else1) → Moved (c .before .args .n) (leadingZeros 64 (c .before .args .n))
+found c = moved (c .before .args .n) (c .before .pre .1) (c .before .pre .2)
+
+cast-z : tie.Need-cast-z
+cast-z c = let m = found c in omega arith
+
+sub-z : tie.Need-sub-z
+sub-z c = found c .zeros
+
+shl-far : tie.Need-shl-far
+shl-far c = let m = found c in omega arith
+
+add-far : tie.Need-add-far
+add-far c = let m = found c in omega arith
+
+far-requires : tie.Need-far-requires
+far-requires c κs =
+    let m = found c in
+    let n = c .before .args .n * 2 ^ (leadingZeros 64 (c .before .args .n) - 11) in
+    let same : n % 18446744073709551616 ≡ n = mod-eq-of-lt (omega arith) in
+    (c .before .pre .0, omega arith, omega arith, omega arith)
+
+shr-result : tie.Need-shr-result
+shr-result c = let m = found (c .before) in omega arith
+
+returns-2 : tie.Need-returns-2
+returns-2 c =
+    let start = c .before .before in
+    moved-back (start .args .m) (start .args .n) (start .args .s) (leadingZeros 64 (start .args .n) - 11) (c .far .result) (start .pre .1) (found (c .before) .below) (c .far .ensures)
+
+pub remainder-of-spec : {M : Type 1} → statement M
+remainder-of-spec =
+    tie.close
+    (tie.spec
+    reduced-requires
+    returns
+    cast-z
+    sub-z
+    shl-far
+    add-far
+    far-requires
+    shr-result
+    returns-2)
