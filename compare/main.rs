@@ -47,10 +47,15 @@ fn nanoseconds<T: Copy, R>(items: &[T], turns: usize, f: impl Fn(T) -> R) -> f64
     start.elapsed().as_nanos() as f64 / (turns * items.len()) as f64
 }
 
+/// The least time of each of the two, measured in turn.
+fn least(rounds: usize, ours: impl Fn() -> f64, theirs: impl Fn() -> f64) -> (f64, f64) {
+    (0..rounds).fold((f64::MAX, f64::MAX), |(a, b), _| (a.min(ours()), b.min(theirs())))
+}
+
 fn time() -> Result<(), String> {
     for (what, pairs) in numbers::timed(7) {
-        let ours = nanoseconds(&pairs, 500, |(a, b)| numbers::modu(a, b));
-        let rust = nanoseconds(&pairs, 500, |(a, b)| a % b);
+        let ours = || nanoseconds(&pairs, 10, |(a, b)| numbers::modu(a, b));
+        let (ours, rust) = least(40, ours, || nanoseconds(&pairs, 10, |(a, b)| a % b));
         println!("remainder, {what}: {ours:.1} ns, Rust {rust:.1} ns, ratio {:.2}", ours / rust);
     }
     for file in files::timed(CASES)? {

@@ -118,7 +118,15 @@ pub fn timed(seed: u64) -> Vec<(&'static str, Vec<(f64, f64)>)> {
         ("whole numbers below 1,024 by 1 to 16", pairs(&|a, b| ((a >> 54) as f64, (1 + (b >> 60)) as f64))),
         ("a smaller dividend", pairs(&|a, b| ((a >> 50) as f64, (20_000 + (b >> 50)) as f64))),
         ("exponents 0 to 7 apart", pairs(&|a, b| (number(a, 1023 + (a >> 61)), number(b, 1023)))),
+        ("exponents 12 to 44 apart", pairs(&|a, b| (number(a, 1035 + (a >> 52) % 33), number(b, 1023)))),
+        ("exponents 45 to 63 apart", pairs(&|a, b| (number(a, 1068 + (a >> 52) % 19), number(b, 1023)))),
+        ("exponents 64 to 127 apart", pairs(&|a, b| (number(a, 1087 + (a >> 58)), number(b, 1023)))),
         ("exponents 200 apart", pairs(&|a, b| (number(a, 1223), number(b, 1023)))),
+        ("exponents 300 apart", pairs(&|a, b| (number(a, 1323), number(b, 1023)))),
+        ("exponents 500 apart", pairs(&|a, b| (number(a, 1523), number(b, 1023)))),
+        ("exponents 1,000 apart", pairs(&|a, b| (number(a, 2023), number(b, 1023)))),
+        ("exponents 1,500 apart", pairs(&|a, b| (number(a, 2046), number(b, 546)))),
         ("exponents 2,045 apart", pairs(&|a, b| (number(a, 2046), number(b, 1)))),
+        ("largest by smallest numbers", pairs(&|a, b| (number(a, 2046), number(b >> (b >> 59), 0)))),
     ]
 }

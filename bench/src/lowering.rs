@@ -8,7 +8,8 @@ use oracle::reader::read;
 use oracle::tree::*;
 
 use crate::engine;
-use crate::measure::{best, row, timed, turn};
+use crate::measure::{best, timed, turn, Group};
+use crate::pages;
 
 /// Files that are near the largest accepted ones, in different ways.
 fn largest() -> Vec<(&'static str, Vec<u8>)> {
@@ -21,9 +22,9 @@ fn largest() -> Vec<(&'static str, Vec<u8>)> {
     let arrays = program((1..=39).map(|name| set_array(name, items.clone())).collect());
     let blocks = program((0..4).map(|_| block(vec![block(vec![]); 254])).collect());
     vec![
-        ("1,015 nodes, arrays, 64 long texts", Parts::new(&arrays, long_texts()).bytes()),
-        ("1,021 nodes, 1,016 instructions", Parts::new(&blocks, short_texts(2)).bytes()),
-        ("1,000 nodes, mixed", mixed(1000)),
+        ("arrays: 1,015 nodes, 64 long texts", Parts::new(&arrays, long_texts()).bytes()),
+        ("blocks: 1,021 nodes, 1,016 instructions", Parts::new(&blocks, short_texts(2)).bytes()),
+        ("mixed: 1,000 nodes", mixed(1000)),
     ]
 }
 
@@ -59,7 +60,12 @@ fn mixed(nodes: usize) -> Vec<u8> {
     file_of(&program(groups))
 }
 
-fn one(what: &str, file: &[u8], rounds: usize) -> f64 {
+/// The nodes of a file.
+fn count(file: &[u8]) -> usize {
+    usize::from(file[0]) << 8 | usize::from(file[1])
+}
+
+fn one(group: &mut Group, what: &str, file: &[u8], rounds: usize) {
     let mut program = vec![0; oracle::program_bytes::SIZE];
     let root = read(file).unwrap_or_else(|number| panic!("{what}: refused {number}"));
     let ast = ast_of(&root);
@@ -72,38 +78,34 @@ fn one(what: &str, file: &[u8], rounds: usize) -> f64 {
             turn("sif_lower", || {
                 timed(calls, || {
                     let _ = black_box(engine::lower(file, &mut program));
-                })
+                }) / 1000.0
             }),
             turn("original, from the file", || {
                 timed(calls, || {
                     let ast = ast_of(&read(black_box(file)).expect("accepted"));
                     black_box(Compiler::new(&ast).compile());
-                })
+                }) / 1000.0
             }),
-            turn("original's compile", || {
-                timed(calls, || drop(black_box(Compiler::new(black_box(&ast)).compile())))
+            turn("original's compile alone", || {
+                timed(calls, || drop(black_box(Compiler::new(black_box(&ast)).compile()))) / 1000.0
             }),
         ],
     );
-    row(what, &times);
-    times[0].1
+    group.row(&format!("{what}, {} bytes", file.len()), count(file) as f64, times);
 }
 
-pub fn all(folder: &str, rounds: usize) -> Result<(), String> {
-    println!("lower: file bytes to program (read, Compiler::compile, tables::compute)");
-    for page in ["heavy", "page"] {
-        one(page, &crate::file(folder, page)?, rounds);
+pub fn all(folder: &str, rounds: usize) -> Result<Vec<Group>, String> {
+    let mut files = Group::new("Lowering, from a file's bytes to a program", "µs");
+    for (page, ..) in pages::PAGES {
+        one(&mut files, page, &pages::file(folder, page)?, rounds);
     }
     for (what, file) in largest() {
-        one(&format!("{what}, {} bytes", file.len()), &file, rounds);
+        one(&mut files, what, &file, rounds);
     }
-    let mut last = 0.0;
+    let mut growth = Group::new("Lowering, by nodes (mixed statements)", "µs");
     for nodes in [100, 200, 400, 700, 1000] {
-        let time = one(&format!("mixed, {nodes} nodes"), &mixed(nodes), rounds);
-        if last > 0.0 {
-            println!("{:46} {:.2} times the line before", "", time / last);
-        }
-        last = time;
+        let file = mixed(nodes);
+        one(&mut growth, &format!("{} nodes", count(&file)), &file, rounds);
     }
-    Ok(())
+    Ok(vec![files, growth])
 }

@@ -6,26 +6,25 @@ mod engine;
 mod hand;
 mod lowering;
 mod measure;
+mod pages;
+mod plot;
 mod runs;
+mod size;
 mod stack;
+mod table;
 
 use std::process::ExitCode;
-
-/// The tree file of a page.
-pub fn file(folder: &str, page: &str) -> Result<Vec<u8>, String> {
-    let path = format!("{folder}/{page}.tree");
-    std::fs::read(&path).map_err(|e| format!("{path}: {e}"))
-}
 
 fn main() -> ExitCode {
     let args: Vec<String> = std::env::args().skip(1).collect();
     let words: Vec<&str> = args.iter().map(String::as_str).collect();
     let done = match words.as_slice() {
-        [folder, rounds] => match rounds.parse() {
-            Ok(rounds) => measured(folder, rounds),
+        ["pages", folder] => pages::write(folder),
+        [folder, engine, out, rounds] => match rounds.parse() {
+            Ok(rounds) => measured(folder, engine, out, rounds),
             Err(_) => Err(format!("not a number: {rounds}")),
         },
-        _ => Err(String::from("FOLDER ROUNDS")),
+        _ => Err(String::from("FOLDER ENGINE OUT ROUNDS, or pages FOLDER")),
     };
     match done {
         Ok(()) => ExitCode::SUCCESS,
@@ -36,9 +35,13 @@ fn main() -> ExitCode {
     }
 }
 
-fn measured(folder: &str, rounds: usize) -> Result<(), String> {
+/// Measures all, and writes the table and the plot.
+fn measured(folder: &str, engine: &str, out: &str, rounds: usize) -> Result<(), String> {
     println!("best of {rounds} rounds in turn; in brackets, how many times the engine's time");
-    lowering::all(folder, rounds)?;
-    runs::all(folder, rounds)?;
-    stack::all(folder)
+    let mut groups = runs::all(folder, rounds)?;
+    groups.extend(lowering::all(folder, rounds)?);
+    groups.extend(size::all(engine)?);
+    groups.extend(stack::all(folder)?);
+    table::write(&format!("{out}/BENCH.md"), rounds, &groups)?;
+    plot::write(&format!("{out}/bench.svg"), rounds, &groups)
 }

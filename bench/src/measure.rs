@@ -1,4 +1,4 @@
-//! Implementations measured in turn, the best of many rounds.
+//! Implementations measured in turn, the best of many rounds; what was measured, in groups.
 
 use std::time::Instant;
 
@@ -12,21 +12,37 @@ pub fn turn<'w>(name: &'static str, work: impl FnMut() -> f64 + 'w) -> Turn<'w> 
     Turn { name, work: Box::new(work) }
 }
 
+extern "C" {
+    fn clock_gettime(clock: i32, time: *mut [i64; 2]) -> i32;
+}
+
+/// Nanoseconds of this thread's processor time.
+fn processor() -> f64 {
+    const THREAD: i32 = 3;
+    let mut time = [0; 2];
+    assert_eq!(unsafe { clock_gettime(THREAD, &mut time) }, 0);
+    time[0] as f64 * 1e9 + time[1] as f64
+}
+
+/// Nanoseconds of some work: by the wall clock, or the processor time where that is less, since then
+/// others had the processor in between.
+fn elapsed(work: impl FnOnce()) -> f64 {
+    let before = processor();
+    let start = Instant::now();
+    work();
+    let wall = start.elapsed().as_nanos() as f64;
+    wall.min(processor() - before)
+}
+
 /// Nanoseconds of one of so many calls.
 pub fn timed(calls: usize, mut call: impl FnMut()) -> f64 {
-    let start = Instant::now();
-    for _ in 0..calls {
-        call();
-    }
-    start.elapsed().as_nanos() as f64 / calls as f64
+    elapsed(|| (0..calls).for_each(|_| call())) / calls as f64
 }
 
 /// Nanoseconds of the second part; the first prepares it and is not measured.
 pub fn timed_after<T>(prepare: impl FnOnce() -> T, call: impl FnOnce(T)) -> f64 {
     let prepared = prepare();
-    let start = Instant::now();
-    call(prepared);
-    start.elapsed().as_nanos() as f64
+    elapsed(|| call(prepared))
 }
 
 /// The best of so many rounds for each, all of them in turn in every round.
@@ -41,16 +57,85 @@ pub fn best(rounds: usize, turns: Vec<Turn>) -> Vec<(&'static str, f64)> {
     turns.iter().map(|turn| turn.name).zip(least).collect()
 }
 
-/// A time in microseconds, with the ratio to the first of the list.
-pub fn row(what: &str, times: &[(&'static str, f64)]) {
-    let first = times[0].1;
-    let cells: Vec<String> = times
-        .iter()
-        .enumerate()
-        .map(|(index, (name, ns))| match index {
-            0 => format!("{name} {:.2} us", ns / 1000.0),
-            _ => format!("{name} {:.2} us ({:.2}x)", ns / 1000.0, ns / first),
-        })
-        .collect();
-    println!("{what:46} {}", cells.join(", "));
+/// The lesser of two measurements of the same implementations.
+pub fn lesser(a: Vec<(&'static str, f64)>, b: &[(&'static str, f64)]) -> Vec<(&'static str, f64)> {
+    a.into_iter().zip(b).map(|((name, a), (_, b))| (name, a.min(*b))).collect()
+}
+
+/// One line of a table: what, how much work it is, and each implementation's figure.
+#[derive(Clone)]
+pub struct Row {
+    pub what: String,
+    pub work: f64,
+    pub figures: Vec<(&'static str, f64)>,
+}
+
+/// A table of like lines, and the unit of its figures.
+pub struct Group {
+    pub title: &'static str,
+    pub unit: &'static str,
+    pub rows: Vec<Row>,
+}
+
+impl Group {
+    pub fn new(title: &'static str, unit: &'static str) -> Group {
+        println!("{title} ({unit})");
+        Group { title, unit, rows: Vec::new() }
+    }
+
+    /// Keeps the line, and prints it.
+    pub fn row(&mut self, what: &str, work: f64, figures: Vec<(&'static str, f64)>) {
+        let cell = |index: usize| format!("{} {}", figures[index].0, self.cell(&figures, index));
+        let cells: Vec<String> = (0..figures.len()).map(cell).collect();
+        println!("  {what:52} {}", cells.join(", "));
+        self.rows.push(Row { what: what.to_string(), work, figures });
+    }
+
+    /// A figure; of a time, with the ratio to the first of its line.
+    pub fn cell(&self, figures: &[(&'static str, f64)], index: usize) -> String {
+        let (first, value) = (figures[0].1, figures[index].1);
+        match index {
+            0 => digits(value),
+            _ if self.unit == "bytes" => digits(value),
+            _ => format!("{} ({:.2})", digits(value), value / first),
+        }
+    }
+
+    /// The lines of which the text ends so.
+    pub fn only(&self, ending: &str) -> Group {
+        let rows = self.rows.iter().filter(|row| row.what.ends_with(ending)).cloned().collect();
+        Group { rows, ..*self }
+    }
+
+    /// The names of the implementations, in order of their first lines.
+    pub fn names(&self) -> Vec<&'static str> {
+        let mut names = Vec::new();
+        for (name, _) in self.rows.iter().flat_map(|row| &row.figures) {
+            if !names.contains(name) {
+                names.push(*name);
+            }
+        }
+        names
+    }
+}
+
+/// Three digits, or a whole number.
+pub fn digits(value: f64) -> String {
+    let whole = format!("{value:.0}");
+    match value {
+        _ if value.fract() == 0.0 || value >= 100.0 => grouped(&whole),
+        _ if value >= 10.0 => format!("{value:.1}"),
+        _ => format!("{value:.2}"),
+    }
+}
+
+fn grouped(whole: &str) -> String {
+    let mut out = String::new();
+    for (index, digit) in whole.chars().enumerate() {
+        if index > 0 && (whole.len() - index) % 3 == 0 {
+            out.push(',');
+        }
+        out.push(digit);
+    }
+    out
 }

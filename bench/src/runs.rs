@@ -12,7 +12,8 @@ use oracle::program_bytes::Code;
 use oracle::state_bytes;
 
 use crate::engine;
-use crate::measure::{best, row, timed, timed_after, turn};
+use crate::measure::{best, lesser, timed, timed_after, turn, Group};
+use crate::pages;
 
 type Run = fn(&[u8], &mut [u8], u64, &mut [u8]) -> u64;
 
@@ -47,7 +48,7 @@ impl Lent {
         RUNS[1..].iter().for_each(|(name, run)| assert!(after(*run) == first, "{name} differs"));
     }
 
-    /// Nanoseconds of each implementation's call with so many steps, each on a fresh copy.
+    /// Microseconds of each implementation's call with so many steps, each on a fresh copy.
     fn times(&self, steps: u64, rounds: usize) -> Vec<(&'static str, f64)> {
         self.agree(steps);
         let one = |run: Run| {
@@ -56,7 +57,7 @@ impl Lent {
                 timed_after(
                     || self.state.clone(),
                     |mut state| assert_eq!(run(&self.program, &mut state, steps, &mut report), 0),
-                )
+                ) / 1000.0
             }
         };
         best(rounds, RUNS.map(|(name, run)| turn(name, one(run))).into_iter().collect())
@@ -68,7 +69,9 @@ impl Lent {
         let one = |run: Run| {
             let mut state = self.state.clone();
             let mut report = [0; calls::REPORT];
-            move || timed(50, || assert_eq!(run(&self.program, &mut state, 0, &mut report), 0))
+            move || {
+                timed(50, || assert_eq!(run(&self.program, &mut state, 0, &mut report), 0)) / 1000.0
+            }
         };
         best(rounds, RUNS.map(|(name, run)| turn(name, one(run))).into_iter().collect())
     }
@@ -83,48 +86,79 @@ impl Lent {
 }
 
 fn code_of(folder: &str, page: &str) -> Result<Code, String> {
-    let file = crate::file(folder, page)?;
+    let file = pages::file(folder, page)?;
     let (_, lowered) = lower_file(&file).map_err(|number| format!("{page}: refused {number}"))?;
     Ok(Code::of_lowered(lowered))
 }
 
-/// Milliseconds of a page in Lua, where that is installed.
-fn lua(folder: &str, page: &str) -> Option<f64> {
-    let out = ["lua5.4", "lua"]
-        .iter()
-        .find_map(|lua| Command::new(lua).arg(format!("{folder}/pages.lua")).output().ok())?;
-    let text = String::from_utf8(out.stdout).ok()?;
-    let line = text.lines().find(|line| line.starts_with(page))?;
-    line.split(' ').nth(1)?.parse().ok()
+/// Microseconds of a page in Lua, where that is installed, and the number that it leaves.
+fn lua(folder: &str, page: &str, rounds: usize) -> Option<(f64, f64)> {
+    let script = format!("{folder}/pages.lua");
+    let arguments = [&script, page, &rounds.to_string()];
+    let run = |lua: &&str| Command::new(lua).args(arguments).output().ok();
+    let text = String::from_utf8(["lua5.4", "lua"].iter().find_map(run)?.stdout).ok()?;
+    let (time, left) = text.trim().split_once(' ')?;
+    Some((time.parse::<f64>().ok()? * 1000.0, left.parse().ok()?))
 }
 
-fn page(folder: &str, name: &str, rounds: usize) -> Result<(), String> {
-    let code = code_of(folder, name)?;
-    let mut machine = code.machine();
-    machine.run(u64::MAX);
-    let steps = machine.count;
-    let lent = Lent::started(&code);
-    let mut times = lent.times(u64::MAX, rounds);
-    let checks = lent.checks(rounds);
-    let original = best(
-        (rounds / 4).max(3),
-        vec![turn("original's VM::run", || {
-            timed_after(|| code.machine(), |mut machine| assert!(machine.vm.run().is_ok()))
-        })],
-    );
-    times.extend(original);
-    if let Some(ms) = lua(folder, name) {
-        times.push(("Lua", ms * 1e6));
+/// The number under a name at a page's end, by the engine.
+fn left(folder: &str, page: &str, word: &str, lent: &Lent) -> Result<f64, String> {
+    let text = pages::text_number(&pages::file(folder, page)?, word)
+        .ok_or(format!("{page}: no {word}"))?;
+    let mut value = [0; calls::VALUE];
+    let read = engine::read_name(&lent.after(u64::MAX).state, u64::from(text), &mut value);
+    match state_bytes::read_slot(&value) {
+        Ok(Some(SifVal::Num(number))) if read == 0 => Ok(number),
+        _ => Err(format!("{page}: {word} is no number")),
     }
-    row(&format!("{name}, {steps} steps, whole call"), &times);
-    let less = |index: usize| (times[index].1 - checks[index].1) / steps as f64;
-    let per_step: Vec<String> = (0..RUNS.len())
-        .map(|index| {
-            format!("{} {:.2} ({:.2}x)", RUNS[index].0, less(index), less(index) / less(0))
-        })
-        .collect();
-    println!("{:46} {}", "  ns a step, less the checks", per_step.join(", "));
-    Ok(())
+}
+
+/// Whole calls in four parts, with Lua and the original between them.
+fn whole(
+    folder: &str,
+    name: &str,
+    word: &str,
+    code: &Code,
+    rounds: usize,
+) -> Result<Vec<(&'static str, f64)>, String> {
+    let lent = Lent::started(code);
+    let number = left(folder, name, word, &lent)?;
+    let part = (rounds / 4).max(3);
+    let mut least: Option<Vec<(&'static str, f64)>> = None;
+    for _ in 0..4 {
+        let mut times = lent.times(u64::MAX, part);
+        if let Some((time, left)) = lua(folder, name, part) {
+            assert!(left == number, "{name}: Lua leaves {left}, the engine {number}");
+            times.push(("Lua 5.4", time));
+        }
+        let original = turn("original", || {
+            timed_after(|| code.machine(), |mut machine| assert!(machine.vm.run().is_ok())) / 1000.0
+        });
+        times.extend(best((part / 2).max(3), vec![original]));
+        least = Some(least.map_or(times.clone(), |least| lesser(least, &times)));
+    }
+    least.ok_or(format!("{name}: nothing measured"))
+}
+
+/// Each page: the whole call, and nanoseconds a step less the checks.
+fn pages(folder: &str, rounds: usize) -> Result<Vec<Group>, String> {
+    let mut calls = Group::new("A whole page, all checks included", "µs");
+    let mut steps = Group::new("A step, less the checks", "ns");
+    for (name, what, word) in pages::PAGES {
+        let code = code_of(folder, name)?;
+        let mut machine = code.machine();
+        machine.run(u64::MAX);
+        let count = machine.count as f64;
+        let times = whole(folder, name, word, &code, rounds)?;
+        let checks = Lent::started(&code).checks(rounds);
+        let less = |(index, (name, check)): (usize, &(&'static str, f64))| {
+            (*name, (times[index].1 - check) * 1000.0 / count)
+        };
+        let each = checks.iter().enumerate().map(less).collect();
+        calls.row(&format!("{name}: {what}, {count} steps"), count, times);
+        steps.row(name, count, each);
+    }
+    Ok(vec![calls, steps])
 }
 
 fn nops(count: usize) -> Code {
@@ -175,16 +209,14 @@ fn filled(code: &Code, names: usize, registers: usize, value: &SifVal) -> Lent {
     lent
 }
 
-pub fn all(folder: &str, rounds: usize) -> Result<(), String> {
-    println!("run: a whole page");
-    for name in ["heavy", "page"] {
-        page(folder, name, rounds)?;
-    }
-    println!("checks: a call with 0 steps");
-    for name in ["heavy", "page"] {
-        let lent = Lent::started(&code_of(folder, name)?);
-        row(&format!("{name}, started"), &lent.checks(rounds));
-        row(&format!("{name}, at its end"), &lent.after(u64::MAX).checks(rounds));
+pub fn all(folder: &str, rounds: usize) -> Result<Vec<Group>, String> {
+    let mut groups = pages(folder, rounds)?;
+    let mut checks = Group::new("The checks of a call: 0 steps", "µs");
+    for (name, ..) in pages::PAGES {
+        let code = code_of(folder, name)?;
+        let (lent, count) = (Lent::started(&code), code.instrs.len() as f64);
+        checks.row(&format!("{name}, started"), count, lent.checks(rounds));
+        checks.row(&format!("{name}, at its end"), count, lent.after(u64::MAX).checks(rounds));
     }
     let full = SifVal::Arr(vec![SifVal::Num(1.5); 24]);
     let mixed = [SifVal::Num(1.5), SifVal::Bl(true), SifVal::Null, SifVal::Str(name_of(3))];
@@ -198,28 +230,26 @@ pub fn all(folder: &str, rounds: usize) -> Result<(), String> {
         ("arrays of 24 of mixed kinds", &mixed),
         ("tables of 16 keys", &table),
     ] {
-        row(
-            &format!("64 names, 96 registers: {what}"),
-            &filled(&small, 64, 96, value).checks(rounds),
-        );
+        let lent = filled(&small, 64, 96, value);
+        checks.row(&format!("64 names, 96 registers: {what}"), 16.0, lent.checks(rounds));
     }
-    println!("growth: with names held, program length, steps");
-    for names in [0, 16, 32, 48, 64] {
-        row(
-            &format!("{names} names held, arrays of 24"),
-            &filled(&small, names, 0, &full).checks(rounds),
-        );
+    let most = filled(&every(1024), 64, 96, &full);
+    checks.row("1,024 instructions, 64 names, 96 registers: arrays", 1024.0, most.checks(rounds));
+    let mut names = Group::new("The checks by names held (arrays of 24, 16 instructions)", "µs");
+    for count in [0, 16, 32, 48, 64] {
+        let lent = filled(&small, count, 0, &full);
+        names.row(&format!("{count} names"), count as f64, lent.checks(rounds));
     }
+    let mut length = Group::new("The checks by instructions (of many kinds, no names)", "µs");
     for count in [0, 128, 256, 512, 1024] {
         let lent = Lent::started(&every(count));
-        row(&format!("{count} instructions of many kinds, 0 steps"), &lent.checks(rounds));
+        length.row(&format!("{count} instructions"), count as f64, lent.checks(rounds));
     }
-    for count in [128, 1024] {
-        row(&format!("{count} Nops, 0 steps"), &Lent::started(&nops(count)).checks(rounds));
-    }
+    let mut steps = Group::new("A call by its steps (a loop of 64 instructions)", "µs");
     let lent = Lent::started(&endless(64));
-    for steps in [0, 100, 1_000, 10_000, 100_000, 1_000_000] {
-        row(&format!("{steps} steps of a loop"), &lent.times(steps, rounds.min(20)));
+    for count in [0, 100, 1_000, 10_000, 100_000, 1_000_000] {
+        steps.row(&format!("{count} steps"), count as f64, lent.times(count, rounds.min(20)));
     }
-    Ok(())
+    groups.extend([checks, names, length, steps]);
+    Ok(groups)
 }

@@ -144,37 +144,35 @@ squared x y n c i p q =
     ∙ mod-product x x (2 ^ (c * 2 ^ i)) (2 ^ (c * 2 ^ i)) n p p
     ∙ ap (λ (z : ℕ). z % n) (sym (pow-add 2 (c * 2 ^ i) (c * 2 ^ i)) ∙ ap (λ (z : ℕ). 2 ^ z) (doubled c i))
 
--- how often s is halved: what is left is below 56
-pub record Halved (s z : ℕ) : Type 0 where
+-- how often e is halved: what is left is below 56
+pub record Halved (e z : ℕ) : Type 0 where
   pub zeros : z ≤ 61
-  pub few : s / 2 ^ (61 - z) < 56
+  pub few : e / 2 ^ (61 - z) < 56
 
-pub halved : (s : ℕ) → 28 ≤ s → s < 2 ^ 64 → Halved s (leadingZeros 64 (s / 7))
-halved s l h = go (leading-top 64 (s / 7) (omega arith) (omega arith))
+pub halved : (e : ℕ) → 28 ≤ e → e < 2 ^ 64 → Halved e (leadingZeros 64 (e / 7))
+halved e l h = go (leading-top 64 (e / 7) (omega arith) (omega arith))
   where
-    go : ((j : ℕ) × (leadingZeros 64 (s / 7) + suc j ≡ 64) × (2 ^ j ≤ s / 7) × (s / 7 < 2 ^ suc j)) → Halved s (leadingZeros 64 (s / 7))
-    go (j, e, lo, hi) =
-        let z = leadingZeros 64 (s / 7) in
+    go : ((j : ℕ) × (leadingZeros 64 (e / 7) + suc j ≡ 64) × (2 ^ j ≤ e / 7) × (e / 7 < 2 ^ suc j)) → Halved e (leadingZeros 64 (e / 7))
+    go (j, at, lo, hi) =
+        let z = leadingZeros 64 (e / 7) in
         let two : 2 < suc j = pow-lt-back 2 (suc j) (omega arith) in
         let zeros : z ≤ 61 = omega arith in
         let place : suc j ≡ 61 - z + 3 = omega arith in
         let top : 2 ^ suc j ≡ 2 ^ (61 - z) * 8 = ap (λ (x : ℕ). 2 ^ x) place ∙ pow-add 2 (61 - z) 3 in
         record { zeros = zeros; few = div-lt-iff-lt-mul (pow-pos (61 - z)) .1 (omega arith) }
 
--- c * 2^k is s without its last k digits
-fits-word : (x s : ℕ) → x ≤ s → s < 2 ^ 64 → x % 18446744073709551616 ≡ x
-fits-word x s l h = mod-eq-of-lt (omega arith)
+-- e without its last k digits
+fits-word : (x e : ℕ) → x ≤ e → e < 2 ^ 64 → x % 18446744073709551616 ≡ x
+fits-word x e l h = mod-eq-of-lt (omega arith)
 
-pub cut-le : (s k : ℕ) → s < 2 ^ 64 → s / 2 ^ k * 2 ^ k % 18446744073709551616 ≤ s
-cut-le s k h = omega (arith, div-mul-le-self s (2 ^ k), fits-word (s / 2 ^ k * 2 ^ k) s (div-mul-le-self s (2 ^ k)) h)
+pub cut : (e k : ℕ) → e < 2 ^ 64 → (e / 2 ^ k * 2 ^ k % 18446744073709551616 ≡ e / 2 ^ k * 2 ^ k) × (e / 2 ^ k * 2 ^ k ≤ e)
+cut e k h = (fits-word (e / 2 ^ k * 2 ^ k) e (div-mul-le-self e (2 ^ k)) h, div-mul-le-self e (2 ^ k))
 
-pub far-same : (m n s k x y : ℕ) → s < 2 ^ 64 → x % n ≡ 2 ^ (s / 2 ^ k * 2 ^ k) % n → y ≡ m * 2 ^ (s - s / 2 ^ k * 2 ^ k % 18446744073709551616) % n → x * y % n ≡ m * 2 ^ s % n
-far-same m n s k x y h p q =
-    let t = s / 2 ^ k * 2 ^ k in
-    let l : t ≤ s = div-mul-le-self s (2 ^ k) in
-    let d = s - t in
-    mod-product x y (2 ^ t) (m * 2 ^ d) n p (ap (λ (z : ℕ). z % n) (q ∙ ap (λ (z : ℕ). m * 2 ^ (s - z) % n) (fits-word t s l h)) ∙ mod-mod (m * 2 ^ d) n)
-    ∙ ap (λ (z : ℕ). z % n) (swap (2 ^ t) m (2 ^ d) ∙ ap (λ (z : ℕ). m * z) (sym (pow-add 2 t d) ∙ ap (λ (z : ℕ). 2 ^ z) (add-sub-of-le l)))
+-- 2^t and what is left of 2^s
+pub far-same : (m n s t u x y : ℕ) → u ≡ t → t ≤ s → x % n ≡ 2 ^ t % n → y ≡ m * 2 ^ (s - u) % n → x * y % n ≡ m * 2 ^ s % n
+far-same m n s t u x y e l p q =
+    mod-product x y (2 ^ t) (m * 2 ^ (s - t)) n p (ap (λ (z : ℕ). z % n) (q ∙ ap (λ (z : ℕ). m * 2 ^ (s - z) % n) e) ∙ mod-mod (m * 2 ^ (s - t)) n)
+    ∙ ap (λ (z : ℕ). z % n) (swap (2 ^ t) m (2 ^ (s - t)) ∙ ap (λ (z : ℕ). m * z) (sym (pow-add 2 t (s - t)) ∙ ap (λ (z : ℕ). 2 ^ z) (add-sub-of-le l)))
   where
     swap : (a b c : ℕ) → a * (b * c) ≡ b * (a * c)
     swap a b c = omega arith

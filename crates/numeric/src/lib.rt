@@ -145,15 +145,16 @@ fn power(c: u64, k: u64, n: u64, v: u64) -> u64
     x
 }
 
-// The remainder of m * 2^s by n, for a large s and an n with a leading digit: 2^s is a power of 2
-// squared, with c from 28 to 55, times what is left.
+// The remainder of m * 2^s by n, for a large s and an n with a leading digit. All but the last digits
+// of s are halved to a c below 56, k times; 8 and what the halving loses are left to `reduced`. It
+// is called from two places, and so the compiler leaves it out of the common case.
 fn far(m: u64, n: u64, s: u64) -> u64
-    requires { ⌜ (m < 2 ^ 53) × (leading ≤ n) × (n < 2 ^ 53) × (28 ≤ s) ⌝ }
+    requires { ⌜ (m < 2 ^ 53) × (leading ≤ n) × (n < 2 ^ 53) × (36 ≤ s) ⌝ }
     ensures { λ r. ⌜ r ≡ m * 2 ^ s % n ⌝ }
 {
     let v = reciprocal_of(n);
-    let k = 61 - u64::leading_zeros(s / 7) as u64;
-    let c = s >> k;
+    let k = 61 - u64::leading_zeros((s - 8) / 7) as u64;
+    let c = (s - 8) >> k;
     let x = power(c, k, n, v);
     let y = reduced(m, n, s - (c << k));
     product(x, y, n, v) % n
@@ -166,6 +167,9 @@ fn remainder_of(m: u64, n: u64, s: u64) -> u64
 {
     if s <= 44 {
         return reduced(m, n, s);
+    }
+    if n >= LEADING {
+        return far(m, n, s);
     }
     let z = u64::leading_zeros(n) as u64 - 11;
     far(m, n << z, s + z) >> z

@@ -16,9 +16,15 @@ reduced-requires c κs = search needs
 returns : tie.Need-returns
 returns c = search needs
 
+far-requires : tie.Need-far-requires
+far-requires c κs = search needs
+
+returns-2 : tie.Need-returns-2
+returns-2 c = search needs
+
 -- where the leading digit of n goes
-found : (c : tie.Else1) → Moved (c .before .args .n) (leadingZeros 64 (c .before .args .n))
-found c = moved (c .before .args .n) (c .before .pre .1) (c .before .pre .2)
+found : (c : tie.Else2) → Moved (c .before .before .args .n) (leadingZeros 64 (c .before .before .args .n))
+found c = moved (c .before .before .args .n) (c .before .before .pre .1) (c .before .before .pre .2)
 
 cast-z : tie.Need-cast-z
 cast-z c = let m = found c in omega arith
@@ -32,20 +38,20 @@ shl-far c = let m = found c in omega arith
 add-far : tie.Need-add-far
 add-far c = let m = found c in omega arith
 
-far-requires : tie.Need-far-requires
-far-requires c κs =
+far-requires-2 : tie.Need-far-requires-2
+far-requires-2 c κs =
     let m = found c in
-    let n = c .before .args .n * 2 ^ (leadingZeros 64 (c .before .args .n) - 11) in
+    let n = c .before .before .args .n * 2 ^ (leadingZeros 64 (c .before .before .args .n) - 11) in
     let same : n % 18446744073709551616 ≡ n = mod-eq-of-lt (omega arith) in
-    (c .before .pre .0, omega arith, omega arith, omega arith)
+    (c .before .before .pre .0, omega arith, omega arith, omega arith)
 
 shr-result : tie.Need-shr-result
 shr-result c = let m = found (c .before) in omega arith
 
-returns-2 : tie.Need-returns-2
-returns-2 c =
-    let start = c .before .before in
-    moved-back (start .args .m) (start .args .n) (start .args .s) (leadingZeros 64 (start .args .n) - 11) (c .far .result) (start .pre .1) (found (c .before) .below) (c .far .ensures)
+returns-3 : tie.Need-returns-3
+returns-3 c =
+    let start = c .before .before .before in
+    moved-back (start .args .m) (start .args .n) (start .args .s) (leadingZeros 64 (start .args .n) - 11) (c .far2 .result) (start .pre .1) (found (c .before) .below) (c .far2 .ensures)
 
 pub remainder-of-spec : {M : Type 1} → statement M
 remainder-of-spec =
@@ -53,10 +59,12 @@ remainder-of-spec =
     (tie.spec
     reduced-requires
     returns
+    far-requires
+    returns-2
     cast-z
     sub-z
     shl-far
     add-far
-    far-requires
+    far-requires-2
     shr-result
-    returns-2)
+    returns-3)
