@@ -103,7 +103,7 @@ fn reduced(m: u64, n: u64, s: u64) -> u64
     (r << left) % n
 }
 
-// 2^84 / n, a little too small.
+// 2^84 / n, or a little less, from the first 32 digits of n.
 fn reciprocal_of(n: u64) -> u64
     requires { ⌜ (leading ≤ n) × (n < 2 ^ 53) ⌝ }
     ensures { λ v. ⌜ Reciprocal n v ⌝ }
@@ -111,8 +111,8 @@ fn reciprocal_of(n: u64) -> u64
     SIGN / (n / 2097152 + 1)
 }
 
-// A number with the remainder of r * 2^27 by n: r * 2^27 less a multiple of n, by a quotient that is
-// the exact one or a little less.
+// A number with the remainder of r * 2^27 by n: r * 2^27 less a multiple of n. The quotient is
+// r / 2^26 * v / 2^31, the exact one or a little less.
 fn shifted(r: u64, n: u64, v: u64) -> u64
     requires { ⌜ (r < 2 ^ 58) × Reciprocal n v ⌝ }
     ensures { λ x. ⌜ (x % n ≡ r * 2 ^ 27 % n) × (x < 3 * 2 ^ 54) ⌝ }
@@ -121,7 +121,8 @@ fn shifted(r: u64, n: u64, v: u64) -> u64
     (r - q * (n / HALF)) * HALF - q * (n % HALF)
 }
 
-// A number with the remainder of a * b by n, below the same end as a and b.
+// A number with the remainder of a * b by n, below the same end as a and b: their digits above and
+// below 2^27 are multiplied, and two shifts put the products to their places.
 fn product(a: u64, b: u64, n: u64, v: u64) -> u64
     requires { ⌜ (a < 2 ^ 56) × (b < 2 ^ 56) × Reciprocal n v ⌝ }
     ensures { λ x. ⌜ (x % n ≡ a * b % n) × (x < 2 ^ 56) ⌝ }
@@ -145,9 +146,9 @@ fn power(c: u64, k: u64, n: u64, v: u64) -> u64
     x
 }
 
-// The remainder of m * 2^s by n, for a large s and an n with a leading digit. All but the last digits
-// of s are halved to a c below 56, k times; 8 and what the halving loses are left to `reduced`. It
-// is called from two places, and so the compiler leaves it out of the common case.
+// The remainder of m * 2^s by n, for a large s and an n with a leading digit. s - 8 is halved k times,
+// to a c below 56; `reduced` takes the 8 and the digits that the halving loses. It is called from two
+// places, and so the compiler leaves it out of the common case.
 fn far(m: u64, n: u64, s: u64) -> u64
     requires { ⌜ (m < 2 ^ 53) × (leading ≤ n) × (n < 2 ^ 53) × (36 ≤ s) ⌝ }
     ensures { λ r. ⌜ r ≡ m * 2 ^ s % n ⌝ }
