@@ -8,7 +8,7 @@ use oracle::reader::read;
 use oracle::tree::*;
 
 use crate::engine;
-use crate::measure::{best, timed, turn, Group};
+use crate::measure::{best, digits, timed, turn, Figures, Plan};
 use crate::pages;
 
 /// Files that are near the largest accepted ones, in different ways.
@@ -65,47 +65,51 @@ fn count(file: &[u8]) -> usize {
     usize::from(file[0]) << 8 | usize::from(file[1])
 }
 
-fn one(group: &mut Group, what: &str, file: &[u8], rounds: usize) {
+fn times(file: &[u8], rounds: usize) -> Figures {
     let mut program = vec![0; oracle::program_bytes::SIZE];
-    let root = read(file).unwrap_or_else(|number| panic!("{what}: refused {number}"));
-    let ast = ast_of(&root);
-    let lowered = (engine::lower(file, &mut program), program.clone());
-    assert!(lowered == oracle::calls::lowered(file), "{what}: not the original's program");
+    let ast = ast_of(&read(file).expect("accepted"));
     let calls = 2 + 100_000 / (file.len() + 400);
-    let times = best(
-        rounds,
-        vec![
-            turn("sif_lower", || {
-                timed(calls, || {
-                    let _ = black_box(engine::lower(file, &mut program));
-                }) / 1000.0
-            }),
-            turn("original, from the file", || {
-                timed(calls, || {
-                    let ast = ast_of(&read(black_box(file)).expect("accepted"));
-                    black_box(Compiler::new(&ast).compile());
-                }) / 1000.0
-            }),
-            turn("original's compile alone", || {
-                timed(calls, || drop(black_box(Compiler::new(black_box(&ast)).compile()))) / 1000.0
-            }),
-        ],
-    );
-    group.row(&format!("{what}, {} bytes", file.len()), count(file) as f64, times);
+    let turns = vec![
+        turn("sif_lower", || {
+            timed(calls, || {
+                let _ = black_box(engine::lower(file, &mut program));
+            }) / 1000.0
+        }),
+        turn("original, from the file", || {
+            timed(calls, || {
+                let ast = ast_of(&read(black_box(file)).expect("accepted"));
+                black_box(Compiler::new(&ast).compile());
+            }) / 1000.0
+        }),
+        turn("original's compile alone", || {
+            timed(calls, || drop(black_box(Compiler::new(black_box(&ast)).compile()))) / 1000.0
+        }),
+    ];
+    best(rounds, turns)
 }
 
-pub fn all(folder: &str, rounds: usize) -> Result<Vec<Group>, String> {
-    let mut files = Group::new("Lowering, from a file's bytes to a program", "µs");
+/// A file's line; the engine has first made the original's program of it.
+fn line(plan: &mut Plan, what: &str, file: Vec<u8>) {
+    let mut program = vec![0; oracle::program_bytes::SIZE];
+    let lowered = (engine::lower(&file, &mut program), program);
+    assert!(lowered.0 == 0, "{what}: refused {}", lowered.0);
+    assert!(lowered == oracle::calls::lowered(&file), "{what}: not the original's program");
+    let what = format!("{what}, {} bytes", digits(file.len() as f64));
+    plan.line(&what, count(&file) as f64, move |rounds| times(&file, rounds));
+}
+
+pub fn all(folder: &str) -> Result<Vec<Plan>, String> {
+    let mut files = Plan::new("Lowering, from a file's bytes to a program", "µs");
     for (page, ..) in pages::PAGES {
-        one(&mut files, page, &pages::file(folder, page)?, rounds);
+        line(&mut files, page, pages::file(folder, page)?);
     }
     for (what, file) in largest() {
-        one(&mut files, what, &file, rounds);
+        line(&mut files, what, file);
     }
-    let mut growth = Group::new("Lowering, by nodes (mixed statements)", "µs");
+    let mut growth = Plan::new("Lowering, by nodes (mixed statements)", "µs");
     for nodes in [100, 200, 400, 700, 1000] {
         let file = mixed(nodes);
-        one(&mut growth, &format!("{} nodes", count(&file)), &file, rounds);
+        line(&mut growth, &format!("{} nodes", count(&file)), file);
     }
     Ok(vec![files, growth])
 }

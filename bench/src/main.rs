@@ -38,8 +38,10 @@ fn main() -> ExitCode {
 /// Measures all, and writes the table and the plot.
 fn measured(folder: &str, engine: &str, out: &str, rounds: usize) -> Result<(), String> {
     println!("best of {rounds} rounds in turn; in brackets, how many times the engine's time");
-    let mut groups = runs::all(folder, rounds)?;
-    groups.extend(lowering::all(folder, rounds)?);
+    let mut plans = runs::all(folder)?;
+    plans.extend(lowering::all(folder)?);
+    let mut groups = measure::measured(rounds, plans);
+    groups.insert(1, runs::steps(&groups));
     groups.extend(size::all(engine)?);
     groups.extend(stack::all(folder)?);
     table::write(&format!("{out}/BENCH.md"), rounds, &groups)?;

@@ -46,7 +46,7 @@ pub fn timed_after<T>(prepare: impl FnOnce() -> T, call: impl FnOnce(T)) -> f64 
 }
 
 /// The best of so many rounds for each, all of them in turn in every round.
-pub fn best(rounds: usize, turns: Vec<Turn>) -> Vec<(&'static str, f64)> {
+pub fn best(rounds: usize, turns: Vec<Turn>) -> Figures {
     let mut turns = turns;
     let mut least = vec![f64::INFINITY; turns.len()];
     for _ in 0..rounds {
@@ -57,17 +57,67 @@ pub fn best(rounds: usize, turns: Vec<Turn>) -> Vec<(&'static str, f64)> {
     turns.iter().map(|turn| turn.name).zip(least).collect()
 }
 
-/// The lesser of two measurements of the same implementations.
-pub fn lesser(a: Vec<(&'static str, f64)>, b: &[(&'static str, f64)]) -> Vec<(&'static str, f64)> {
-    a.into_iter().zip(b).map(|((name, a), (_, b))| (name, a.min(*b))).collect()
-}
+/// Each implementation's figure.
+pub type Figures = Vec<(&'static str, f64)>;
 
-/// One line of a table: what, how much work it is, and each implementation's figure.
+/// One line of a table: what, how much work it is, and the figures.
 #[derive(Clone)]
 pub struct Row {
     pub what: String,
     pub work: f64,
-    pub figures: Vec<(&'static str, f64)>,
+    pub figures: Figures,
+}
+
+/// A line that is to be measured, with so many rounds at a time.
+pub struct Line {
+    pub what: String,
+    pub work: f64,
+    pub measure: Box<dyn FnMut(usize) -> Figures>,
+}
+
+/// A table that is to be measured.
+pub struct Plan {
+    pub title: &'static str,
+    pub unit: &'static str,
+    pub lines: Vec<Line>,
+}
+
+impl Plan {
+    pub fn new(title: &'static str, unit: &'static str) -> Plan {
+        Plan { title, unit, lines: Vec::new() }
+    }
+
+    pub fn line(&mut self, what: &str, work: f64, measure: impl FnMut(usize) -> Figures + 'static) {
+        self.lines.push(Line { what: what.to_string(), work, measure: Box::new(measure) });
+    }
+}
+
+/// All lines of all tables are gone over so often, each time with a part of the rounds: what slows
+/// the machine for a while slows no line more than another.
+const PASSES: usize = 10;
+
+pub fn measured(rounds: usize, plans: Vec<Plan>) -> Vec<Group> {
+    let (mut plans, part) = (plans, rounds.div_ceil(PASSES));
+    let mut least: Vec<Vec<Figures>> = Vec::new();
+    for pass in 0..PASSES {
+        let figures = |line: &mut Line| (line.measure)(part);
+        let all = plans.iter_mut().map(|plan| plan.lines.iter_mut().map(figures).collect());
+        let all: Vec<Vec<Figures>> = all.collect();
+        let figures = least.iter_mut().flatten().flatten().zip(all.iter().flatten().flatten());
+        figures.for_each(|(least, figure)| least.1 = least.1.min(figure.1));
+        if pass == 0 {
+            least = all;
+        }
+        eprintln!("pass {} of {PASSES}", pass + 1);
+    }
+    let table = |(plan, figures): (Plan, Vec<Figures>)| {
+        let mut group = Group::new(plan.title, plan.unit);
+        for (line, figures) in plan.lines.into_iter().zip(figures) {
+            group.row(&line.what, line.work, figures);
+        }
+        group
+    };
+    plans.into_iter().zip(least).map(table).collect()
 }
 
 /// A table of like lines, and the unit of its figures.
@@ -84,7 +134,7 @@ impl Group {
     }
 
     /// Keeps the line, and prints it.
-    pub fn row(&mut self, what: &str, work: f64, figures: Vec<(&'static str, f64)>) {
+    pub fn row(&mut self, what: &str, work: f64, figures: Figures) {
         let cell = |index: usize| format!("{} {}", figures[index].0, self.cell(&figures, index));
         let cells: Vec<String> = (0..figures.len()).map(cell).collect();
         println!("  {what:52} {}", cells.join(", "));

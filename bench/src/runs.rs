@@ -12,7 +12,7 @@ use oracle::program_bytes::Code;
 use oracle::state_bytes;
 
 use crate::engine;
-use crate::measure::{best, lesser, timed, timed_after, turn, Group};
+use crate::measure::{best, digits, timed, timed_after, turn, Figures, Group, Plan};
 use crate::pages;
 
 type Run = fn(&[u8], &mut [u8], u64, &mut [u8]) -> u64;
@@ -49,8 +49,7 @@ impl Lent {
     }
 
     /// Microseconds of each implementation's call with so many steps, each on a fresh copy.
-    fn times(&self, steps: u64, rounds: usize) -> Vec<(&'static str, f64)> {
-        self.agree(steps);
+    fn times(&self, steps: u64, rounds: usize) -> Figures {
         let one = |run: Run| {
             move || {
                 let mut report = [0; calls::REPORT];
@@ -64,8 +63,7 @@ impl Lent {
     }
 
     /// The same with 0 steps, many calls in a row: nothing changes.
-    fn checks(&self, rounds: usize) -> Vec<(&'static str, f64)> {
-        self.agree(0);
+    fn checks(&self, rounds: usize) -> Figures {
         let one = |run: Run| {
             let mut state = self.state.clone();
             let mut report = [0; calls::REPORT];
@@ -113,52 +111,45 @@ fn left(folder: &str, page: &str, word: &str, lent: &Lent) -> Result<f64, String
     }
 }
 
-/// Whole calls in four parts, with Lua and the original between them.
+/// Microseconds of a whole page, with Lua and the original.
 fn whole(
     folder: &str,
-    name: &str,
-    word: &str,
+    page: &str,
+    number: f64,
+    lent: &Lent,
     code: &Code,
     rounds: usize,
-) -> Result<Vec<(&'static str, f64)>, String> {
-    let lent = Lent::started(code);
-    let number = left(folder, name, word, &lent)?;
-    let part = (rounds / 4).max(3);
-    let mut least: Option<Vec<(&'static str, f64)>> = None;
-    for _ in 0..4 {
-        let mut times = lent.times(u64::MAX, part);
-        if let Some((time, left)) = lua(folder, name, part) {
-            assert!(left == number, "{name}: Lua leaves {left}, the engine {number}");
-            times.push(("Lua 5.4", time));
-        }
-        let original = turn("original", || {
-            timed_after(|| code.machine(), |mut machine| assert!(machine.vm.run().is_ok())) / 1000.0
-        });
-        times.extend(best((part / 2).max(3), vec![original]));
-        least = Some(least.map_or(times.clone(), |least| lesser(least, &times)));
+) -> Figures {
+    let mut times = lent.times(u64::MAX, rounds);
+    if let Some((time, left)) = lua(folder, page, rounds) {
+        assert!(left == number, "{page}: Lua leaves {left}, the engine {number}");
+        times.push(("Lua 5.4", time));
     }
-    least.ok_or(format!("{name}: nothing measured"))
+    let original = turn("original", || {
+        timed_after(|| code.machine(), |mut machine| assert!(machine.vm.run().is_ok())) / 1000.0
+    });
+    times.extend(best(rounds.div_ceil(2), vec![original]));
+    times
 }
 
-/// Each page: the whole call, and nanoseconds a step less the checks.
-fn pages(folder: &str, rounds: usize) -> Result<Vec<Group>, String> {
-    let mut calls = Group::new("A whole page, all checks included", "µs");
+const WHOLE: &str = "A whole page, all checks included";
+const CHECKS: &str = "The checks of a call: 0 steps";
+
+/// Nanoseconds a step of each page, less the checks, from what was measured.
+pub fn steps(groups: &[Group]) -> Group {
+    let rows = |title: &'static str| {
+        groups.iter().filter(move |group| group.title == title).flat_map(|group| &group.rows)
+    };
     let mut steps = Group::new("A step, less the checks", "ns");
-    for (name, what, word) in pages::PAGES {
-        let code = code_of(folder, name)?;
-        let mut machine = code.machine();
-        machine.run(u64::MAX);
-        let count = machine.count as f64;
-        let times = whole(folder, name, word, &code, rounds)?;
-        let checks = Lent::started(&code).checks(rounds);
-        let less = |(index, (name, check)): (usize, &(&'static str, f64))| {
-            (*name, (times[index].1 - check) * 1000.0 / count)
+    for (row, (name, ..)) in rows(WHOLE).zip(pages::PAGES) {
+        let started = format!("{name}, started");
+        let checks = rows(CHECKS).filter(|row| row.what == started).flat_map(|row| &row.figures);
+        let less = |(whole, checks): (&(&'static str, f64), &(&'static str, f64))| {
+            (whole.0, (whole.1 - checks.1) * 1000.0 / row.work)
         };
-        let each = checks.iter().enumerate().map(less).collect();
-        calls.row(&format!("{name}: {what}, {count} steps"), count, times);
-        steps.row(name, count, each);
+        steps.row(name, row.work, row.figures.iter().zip(checks).map(less).collect());
     }
-    Ok(vec![calls, steps])
+    steps
 }
 
 fn nops(count: usize) -> Code {
@@ -209,14 +200,30 @@ fn filled(code: &Code, names: usize, registers: usize, value: &SifVal) -> Lent {
     lent
 }
 
-pub fn all(folder: &str, rounds: usize) -> Result<Vec<Group>, String> {
-    let mut groups = pages(folder, rounds)?;
-    let mut checks = Group::new("The checks of a call: 0 steps", "µs");
-    for (name, ..) in pages::PAGES {
+/// A line for the checks of a call; all implementations have first left the same.
+fn checks(plan: &mut Plan, what: &str, work: usize, lent: Lent) {
+    lent.agree(0);
+    plan.line(what, work as f64, move |rounds| lent.checks(rounds));
+}
+
+pub fn all(folder: &str) -> Result<Vec<Plan>, String> {
+    let (mut whole_pages, mut checked) = (Plan::new(WHOLE, "µs"), Plan::new(CHECKS, "µs"));
+    for (name, what, word) in pages::PAGES {
         let code = code_of(folder, name)?;
-        let (lent, count) = (Lent::started(&code), code.instrs.len() as f64);
-        checks.row(&format!("{name}, started"), count, lent.checks(rounds));
-        checks.row(&format!("{name}, at its end"), count, lent.after(u64::MAX).checks(rounds));
+        let mut machine = code.machine();
+        machine.run(u64::MAX);
+        let (steps, count) = (machine.count, code.instrs.len());
+        let lent = Lent::started(&code);
+        let number = left(folder, name, word, &lent)?;
+        lent.agree(u64::MAX);
+        checks(&mut checked, &format!("{name}, started"), count, Lent::started(&code));
+        checks(&mut checked, &format!("{name}, at its end"), count, lent.after(u64::MAX));
+        let folder = folder.to_string();
+        whole_pages.line(
+            &format!("{name}: {what}, {} steps", digits(steps as f64)),
+            steps as f64,
+            move |rounds| whole(&folder, name, number, &lent, &code, rounds),
+        );
     }
     let full = SifVal::Arr(vec![SifVal::Num(1.5); 24]);
     let mixed = [SifVal::Num(1.5), SifVal::Bl(true), SifVal::Null, SifVal::Str(name_of(3))];
@@ -230,26 +237,27 @@ pub fn all(folder: &str, rounds: usize) -> Result<Vec<Group>, String> {
         ("arrays of 24 of mixed kinds", &mixed),
         ("tables of 16 keys", &table),
     ] {
-        let lent = filled(&small, 64, 96, value);
-        checks.row(&format!("64 names, 96 registers: {what}"), 16.0, lent.checks(rounds));
+        let what = format!("64 names, 96 registers: {what}");
+        checks(&mut checked, &what, 16, filled(&small, 64, 96, value));
     }
-    let most = filled(&every(1024), 64, 96, &full);
-    checks.row("1,024 instructions, 64 names, 96 registers: arrays", 1024.0, most.checks(rounds));
-    let mut names = Group::new("The checks by names held (arrays of 24, 16 instructions)", "µs");
+    let most = "1,024 instructions, 64 names, 96 registers: arrays";
+    checks(&mut checked, most, 1024, filled(&every(1024), 64, 96, &full));
+    let mut names = Plan::new("The checks by names held (arrays of 24, 16 instructions)", "µs");
     for count in [0, 16, 32, 48, 64] {
-        let lent = filled(&small, count, 0, &full);
-        names.row(&format!("{count} names"), count as f64, lent.checks(rounds));
+        checks(&mut names, &format!("{count} names"), count, filled(&small, count, 0, &full));
     }
-    let mut length = Group::new("The checks by instructions (of many kinds, no names)", "µs");
+    let mut length = Plan::new("The checks by instructions (of many kinds, no names)", "µs");
     for count in [0, 128, 256, 512, 1024] {
         let lent = Lent::started(&every(count));
-        length.row(&format!("{count} instructions"), count as f64, lent.checks(rounds));
+        checks(&mut length, &format!("{} instructions", digits(count as f64)), count, lent);
     }
-    let mut steps = Group::new("A call by its steps (a loop of 64 instructions)", "µs");
-    let lent = Lent::started(&endless(64));
+    let mut by_steps = Plan::new("A call by its steps (a loop of 64 instructions)", "µs");
     for count in [0, 100, 1_000, 10_000, 100_000, 1_000_000] {
-        steps.row(&format!("{count} steps"), count as f64, lent.times(count, rounds.min(20)));
+        let lent = Lent::started(&endless(64));
+        lent.agree(count);
+        by_steps.line(&format!("{} steps", digits(count as f64)), count as f64, move |rounds| {
+            lent.times(count, rounds)
+        });
     }
-    groups.extend([checks, names, length, steps]);
-    Ok(groups)
+    Ok(vec![whole_pages, checked, names, length, by_steps])
 }
