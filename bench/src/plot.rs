@@ -26,6 +26,8 @@ const STYLES: [(&str, &str, &str, &str); 6] = [
 fn called(series: &'static str) -> &'static str {
     match series {
         "sif_run" | "sif_lower" => "this engine",
+        "original, from the file" => "original from the file",
+        "original's compile alone" => "its compile alone",
         _ => series,
     }
 }
@@ -223,7 +225,7 @@ impl Panel {
         panel.text(8.0, top - 12.0, "start", "small", data.vertical);
         let mut x = left + width;
         for name in data.series.iter().skip(first).rev() {
-            x -= 5.2 * called(name).len() as f64 + 26.0;
+            x -= 5.7 * called(name).len() as f64 + 24.0;
             match bars {
                 true => panel.bar(x, 24.0, 9.0, 9.0, style(name)),
                 false => {
@@ -296,8 +298,10 @@ fn bars(data: &Data, ratios: bool) -> String {
                 &short(value),
             );
         }
+        let class = if data.places.len() > 6 { "tiny" } else { "small" };
         for (line, text) in label.iter().enumerate() {
-            panel.text(middle, top + height + 13.0 + 11.0 * line as f64, "middle", "small", text);
+            let y = top + height + 13.0 + 11.0 * line as f64;
+            panel.text(middle, y, "middle", class, text);
         }
     }
     if ratios {
@@ -346,7 +350,7 @@ fn lines(data: &Data, powers: bool) -> String {
 
 const STYLE: &str = "text{font-family:Helvetica,Arial,sans-serif;fill:#111}\
     .head{font-size:17px;font-weight:bold}.title{font-size:12.5px;font-weight:bold}\
-    .small{font-size:10px}.tiny{font-size:8.5px}\
+    .small{font-size:10px}.tiny{font-size:8px}\
     .grid{stroke:#d4d4d4;stroke-width:0.7}.axis{stroke:#222;stroke-width:1}\
     .engine{stroke:#17375e;stroke-width:1.6}";
 
