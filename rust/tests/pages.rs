@@ -1,0 +1,167 @@
+//! The pages of examples/pages: their texts, tree files and screens, and what the README says of the
+//! language.
+
+use sif::parse::parse;
+use sif::{Answer, Program, Single, Stop, Value};
+use std::collections::BTreeMap;
+use std::path::PathBuf;
+use std::process::{Command, Output};
+
+/// The pages and the exit code of their screen.
+const PAGES: [(&str, i32); 6] = [
+    ("worksheet", 0),
+    ("contents", 0),
+    ("stops", 1),
+    ("functions", 0),
+    ("heaviest", 0),
+    ("refused", 1),
+];
+
+fn folder() -> PathBuf {
+    PathBuf::from(env!("CARGO_MANIFEST_DIR")).join("../examples/pages")
+}
+
+fn sif(arguments: &[&str]) -> Output {
+    Command::new(env!("CARGO_BIN_EXE_sif")).args(arguments).current_dir(folder()).output().unwrap()
+}
+
+fn stored(name: &str) -> Vec<u8> {
+    std::fs::read(folder().join(name)).unwrap()
+}
+
+fn hold_screen(arguments: &[&str], screen: &str, code: i32) {
+    let output = sif(arguments);
+    let wanted = String::from_utf8(stored(screen)).unwrap();
+    assert_eq!(String::from_utf8_lossy(&output.stdout), wanted, "{arguments:?}");
+    assert_eq!(output.status.code(), Some(code), "{arguments:?}");
+}
+
+#[test]
+fn screens() {
+    for (page, code) in PAGES.into_iter().filter(|(page, _)| *page != "refused") {
+        hold_screen(&["page", &format!("{page}.tree")], &format!("{page}.page"), code);
+    }
+    hold_screen(&["page", "--dots", "contents.tree"], "contents.dots", 0);
+    hold_screen(&["check", "refused.tree"], "refused.check", 1);
+}
+
+#[test]
+fn trees_are_made_from_the_texts() {
+    for (page, _) in PAGES {
+        let output = sif(&["tree", &format!("{page}.sif")]);
+        assert_eq!(output.stdout, stored(&format!("{page}.tree")), "{page}");
+        // A refused script is written all the same; that it is refused is told.
+        let refused = page == "refused";
+        assert_eq!(output.status.code(), Some(i32::from(refused)), "{page}");
+        assert_eq!(output.stderr.is_empty(), !refused, "{page}");
+    }
+}
+
+#[test]
+fn every_page_is_there() {
+    let mut found: Vec<String> = std::fs::read_dir(folder())
+        .unwrap()
+        .map(|entry| entry.unwrap().file_name().into_string().unwrap())
+        .filter_map(|name| name.strip_suffix(".sif").map(str::to_string))
+        .collect();
+    let mut pages: Vec<_> = PAGES.map(|(page, _)| page.to_string()).into();
+    found.sort();
+    pages.sort();
+    assert_eq!(found, pages);
+}
+
+/// The names that a text leaves, and how it ends.
+fn run(text: &str) -> (BTreeMap<String, Value>, Answer) {
+    let script = parse(text).unwrap_or_else(|error| panic!("{error}\n{text}")).script;
+    let program = Program::lower(&script.to_bytes()).unwrap();
+    let mut machine = program.start().unwrap();
+    let answer = machine.run(100_000).unwrap().answer;
+    let named = |(name, value): (sif::Name, Value)| (script.text(name.number()).to_string(), value);
+    (machine.names().into_iter().map(named).collect(), answer)
+}
+
+fn stop(text: &str) -> Stop {
+    match run(text).1 {
+        Answer::Stopped { stop, .. } => stop,
+        answer => panic!("{answer:?}\n{text}"),
+    }
+}
+
+#[test]
+fn the_sample_of_the_readme() {
+    let readme = String::from_utf8(stored("README.md")).unwrap();
+    let (_, behind) = readme.split_once("```\nvar total").unwrap();
+    let (sample, _) = behind.split_once("```").unwrap();
+    let (names, answer) = run(&format!("var total{sample}"));
+    assert_eq!(answer, Answer::Done);
+    // 0 and 1, then the indexes 0 to 3, then twice that and 1.
+    assert_eq!(names["total"], Value::Single(Single::Number(15.0)));
+    assert!(names.contains_key("note") && names.contains_key("song"));
+}
+
+#[test]
+fn what_surprises() {
+    let number = |number: f64| Value::Single(Single::Number(number));
+    let truth = |truth: bool| Value::Single(Single::Bool(truth));
+    assert_eq!(run("x = true").0["x"], truth(false));
+    assert_eq!(run("x = 1 == 1").0["x"], truth(true));
+    assert!(!run("var cells = [1, 2, 3]\nx = cells[2]").0.contains_key("x"));
+
+    // Nothing is computed for yes and no, and for a setting, outside an operator.
+    let table = |text: &str| match &run(text).0["t"] {
+        Value::Table(pairs) => pairs.iter().map(|(_, value)| *value).collect::<Vec<_>>(),
+        value => panic!("{value:?}"),
+    };
+    assert_eq!(table("var t = {page: 1, ready: true}"), [Single::Number(1.0); 2]);
+    assert_eq!(stop("var t = {ready: true}"), Stop::EmptyRegister);
+    assert_eq!(run("y = 1 == 1\nx = y && true").0["x"], truth(true));
+    assert_eq!(run("x = (y = 1 + 1)").0["x"], number(2.0));
+    assert_eq!(run("a = 2 + 3\nx = (y = 1)").0["x"], number(5.0));
+    assert_eq!(run("x = (y = 1)").0["x"], Value::Single(Single::Nothing));
+
+    let (names, _) = run("fn f():\n    a = [1]\n    return a\nfor i, v in f():\n    empty");
+    assert_eq!(names["fortmp"], Value::Array(vec![Single::Number(1.0)]));
+
+    let (names, _) = run("fn f(a, b):\n    return a\nx = f(1, 2)");
+    assert_eq!(names["x"], number(2.0));
+    assert_eq!((&names["a"], &names["b"]), (&number(2.0), &number(1.0)));
+
+    assert_eq!(stop("x = \"a\" == \"a\""), Stop::TyMismatch);
+    assert_eq!(stop("x = 1 != 2"), Stop::TyMismatch);
+    assert_eq!(run("y = 1 == 1\nx = y != y").1, Answer::Done);
+    let empty = stop("var a = []\nfor i, v in a:\n    empty");
+    assert!(matches!(empty, Stop::IndexOutOfBounds { index: 0, length: 0, .. }));
+
+    let text = "fn f():\n    x = 1\nfn g():\n    y = 2\n    return\nf()";
+    assert_eq!(run(text).0["y"], number(2.0));
+}
+
+/// The stops that a script can come to, each in words with the script's names.
+#[test]
+fn stops_in_words() {
+    let kind = "a value of the wrong kind for an operator, a condition or an index";
+    let full = "more than 24 values on the stack, or 24 calls in one another";
+    let rows = [
+        ("x", 20, "name x is not set"),
+        ("`a b` + 1", 20, "name `a b` is not set"),
+        ("if 1 == 2:\n    y = 5 + 6\nx = (z = 1) + 1", 26, "register 5 is empty"),
+        ("x = 1 + \"a\"", 27, kind),
+        ("if \"a\":\n    empty", 27, kind),
+        ("a = [1]\na[\"x\"] = 2", 27, kind),
+        ("a = [1]\nx = a[\"x\"]", 27, kind),
+        ("`if` = 1\n`if`[0] = 2", 28, "`if` is not an array"),
+        ("f()", 29, "function f is not declared"),
+        ("return", 30, "a return outside a call"),
+        ("a = [1]\na[1] = 2", 31, "index 1 in array a of length 1"),
+        ("a = [1]\nx = a[inf]", 31, "index 18446744073709551615 in array a of length 1"),
+        ("f(true)", 32, "an empty register pushed or put into a table"),
+        ("a = [1]\nt = {k: a}", 34, "an array or table put inside another"),
+        ("fn f():\n    return f()\nf()", 35, full),
+    ];
+    for (text, number, words) in rows {
+        let script = parse(text).unwrap().script;
+        let stop = stop(text);
+        let named = stop.words(|name| sif::show::name(script.text(name.number())));
+        assert_eq!((stop.number(), named.as_str()), (number, words), "{text}");
+    }
+}
