@@ -3,6 +3,7 @@
 
 pub mod bound;
 pub mod build_tree;
+pub mod byte_rows;
 pub mod bytes;
 pub mod calls;
 pub mod cases;

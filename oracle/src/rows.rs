@@ -3,8 +3,10 @@
 
 use std::fs;
 
+use crate::byte_rows::{calls_of, programs_of as buffers_of, records_of, reports_of, states_of};
 use crate::listing::{listing, state_of_file, STEPS};
 use crate::program::run_text;
+use crate::value_text::NAN;
 
 /// Compares every row of the tables in the folder of the crates with the original.
 pub fn check(crates: &str) -> Result<(), String> {
@@ -16,9 +18,16 @@ pub fn check(crates: &str) -> Result<(), String> {
     let programs = programs_of(&read("engine/proofs/Programs.antt")?)?;
     let lowerings = lowerings_of(&read("compiler/proofs/Computed.antt")?)?;
     let readings = readings_of(&read("ast/proofs/Computed.antt")?)?;
+    let records = records_of(&read("opc/proofs/Rows.antt")?)?;
+    let buffers = buffers_of(&read("tables/proofs/Rows.antt")?)?;
+    let states = states_of(&read("vm/proofs/Rows.antt")?)?;
+    let reports = reports_of(&read("report/proofs/Rows.antt")?)?;
+    let calls =
+        calls_of(&read("lower/proofs/Rows.antt")?)? + calls_of(&read("calls/proofs/Rows.antt")?)?;
     println!(
-        "rows: {files} files, {programs} programs, {lowerings} lowerings and {readings} readings \
-         of the computed tables, as by the original"
+        "rows: {files} files, {programs} programs, {lowerings} lowerings, {readings} readings, \
+         {records} records, {buffers} program buffers, {states} states, {reports} reports and \
+         {calls} calls of the computed tables, as by the original"
     );
     Ok(())
 }
@@ -210,7 +219,7 @@ fn programs_of(table: &str) -> Result<usize, String> {
 }
 
 /// An instruction as the listing writes it: label, operation, operands.
-fn instr_text(instr: &str) -> String {
+pub fn instr_text(instr: &str) -> String {
     let plain = instr.replace(['(', ')'], " ");
     let words: Vec<&str> = plain.split_whitespace().collect();
     let mut out = Vec::new();
@@ -244,11 +253,19 @@ fn instr_text(instr: &str) -> String {
 
 fn single(words: &[&str], at: &mut usize) -> String {
     let (text, taken) = match words[*at] {
-        "Num" => (format!("Num:{}", words[*at + 3].trim_start_matches("0x")), 4),
+        "Num" => (format!("Num:{}", pattern(words[*at + 3].trim_start_matches("0x"))), 4),
         "Text" => (format!("Str:{}", words[*at + 1]), 2),
         "Bl" => (format!("Bl:{}", u8::from(words[*at + 1] == "true")), 2),
         word => (String::from(word), 1),
     };
     *at += taken;
     text
+}
+
+/// A number's pattern as the listing writes it: one for every NaN.
+fn pattern(hex: &str) -> String {
+    match u64::from_str_radix(hex, 16) {
+        Ok(bits) if f64::from_bits(bits).is_nan() => format!("{NAN:016x}"),
+        _ => String::from(hex),
+    }
 }

@@ -14,13 +14,14 @@ use lib.Seq.{getD-drop}
 use borrow.Author.Tests.{ltb-true}
 use Rattle.ast.specs.Node.{Kind, kProgram, kElif, kItem, kStmt, kRight, kExpr, Node, node, numberOf, kindOf, body}
 use Rattle.ast.specs.Structure.{field}
-use Rattle.ast.specs.File.{nodesFrom, all, nodeOk, fieldOk}
-use Rattle.ast.specs.Pass.{Left, wrong, left, keyOf, Fit, Agrees, refuses, takes}
+use Rattle.ast.specs.File.{nodesFrom, nodeOk, fieldOk}
+use Rattle.ast.specs.inner.Pass.{Remaining, wrong, left, keyOf, Fit, Agrees, refuses, takes}
 use Rattle.ast.specs.declared.structure.Checked.{Checked}
 use Rattle.ast.specs.declared.structure.Checked.the-variants.{Taken, Bad}
 use Rattle.ast.proofs.Scan.{drop-all}
-use Rattle.ast.proofs.Table.{numbered}
+use Rattle.ast.specs.laws.Kinds.{number-kind}
 use Rattle.ast.proofs.Rooms.{First, first, sizeAt}
+use Rattle.lent.specs.Lists.{all}
 
 pub no-first : (b : List ℕ) → length b ≡ 0 → 0 ≡ getD b 0 0
 no-first [] h = refl
@@ -28,20 +29,20 @@ no-first (x ∷ b) h = absurd (omega arith)
 
 -- ---- an answer
 
-pub record Here (c b : List ℕ) (x : Left) (u v : ℕ) : Type 0 where
+pub record Here (c b : List ℕ) (x : Remaining) (u v : ℕ) : Type 0 where
   pub inC : u ≤ length c
   pub inB : v ≤ length b
   pub fit : Fit (drop u c) (drop v b)
   pub nodes : x ≡ left (nodesFrom (drop u c) (drop v b))
 
-pub here : {c b : List ℕ} {x : Left} {p : Checked} → Agrees c b x p → (u v : ℕ) → p ≡ Taken u v → Here c b x u v
+pub here : {c b : List ℕ} {x : Remaining} {p : Checked} → Agrees c b x p → (u v : ℕ) → p ≡ Taken u v → Here c b x u v
 here refuses u v e = let z : _≡_ {A = ℕ} 0 1 = cc in absurd (omega arith)
 here (takes {u = i} {v = j} hu hv f n) u v e =
     let eu : i ≡ u = cc in
     let ev : j ≡ v = cc in
     rw (← eu, ← ev) record { inC = hu; inB = hv; fit = f; nodes = ap left n }
 
-pub refused : {c b : List ℕ} {x : Left} {p : Checked} → Agrees c b x p → p ≡ Bad → x ≡ wrong
+pub refused : {c b : List ℕ} {x : Remaining} {p : Checked} → Agrees c b x p → p ≡ Bad → x ≡ wrong
 refused refuses e = refl
 refused (takes hu hv f n) e = let z : _≡_ {A = ℕ} 0 1 = cc in absurd (omega arith)
 
@@ -91,10 +92,10 @@ kind-here : (c : List ℕ) (u : ℕ) → getD (drop u c) 0 0 ≡ getD c u 0
 kind-here c u = getD-drop u c 0 0 ∙ ap (λ (j : ℕ). getD c j 0) (add-zero u)
 
 module _ {c b : List ℕ} {u v : ℕ} where
-  pub first-here : {x : Left} → Here c b x u v → u < length c → First (drop u c) (drop v b)
+  pub first-here : {x : Remaining} → Here c b x u v → u < length c → First (drop u c) (drop v b)
   first-here h l = first (h .fit .room) (rw length-drop (omega arith))
 
-  module _ {x : Left} (h : Here c b x u v) (l : u < length c) (e : getD c u 0 ≡ 11) where
+  module _ {x : Remaining} (h : Here c b x u v) (l : u < length c) (e : getD c u 0 ≡ 11) where
     item-kind : getD (drop u c) 0 0 ≡ 11
     item-kind = kind-here c u ∙ e
 
@@ -126,7 +127,7 @@ module _ {c b : List ℕ} {u v : ℕ} where
     key-other l n =
         let g = first-here h l in
         rw (left-eq (h .nodes), g .nodes)
-        (not-item (kindOf (getD (drop u c) 0 0)) (getD (drop u c) 1 0) (take (sizeAt (drop u c)) (drop v b)) (nodesFrom (drop 2 (drop u c)) (drop (sizeAt (drop u c)) (drop v b))) (λ e. n (sym (kind-here c u) ∙ sym (numbered (getD (drop u c) 0 0) (g .least) (g .known)) ∙ e)))
+        (not-item (kindOf (getD (drop u c) 0 0)) (getD (drop u c) 1 0) (take (sizeAt (drop u c)) (drop v b)) (nodesFrom (drop 2 (drop u c)) (drop (sizeAt (drop u c)) (drop v b))) (λ e. n (sym (kind-here c u) ∙ sym (number-kind (getD (drop u c) 0 0) (g .least) (g .known)) ∙ e)))
 
     pub key-item : u < length c → getD c u 0 ≡ 11 → getD b v 0 ≡ keyOf ns
     key-item l e =

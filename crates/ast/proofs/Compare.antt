@@ -11,34 +11,34 @@ use lib.ListN.{length, getD, drop}
 use lib.Seq.{drop-cons, drop-nil}
 use borrow.Author.Tests.{lt-ltb, le-ltb, eq-eqb, ne-eqb}
 use Rattle.lent.specs.Bytes.{sameBytes}
-use Rattle.lent.specs.Same.{ne-same}
-use Rattle.ast.specs.File.{before, fortmp}
+use Rattle.lent.specs.laws.Same.{ne-same}
+use Rattle.ast.specs.File.{precedes, fortmp}
 use Rattle.ast.proofs.Scan.{drop-all}
 
 module _ (a b : List ℕ) (i : ℕ) where
   -- b ends first, or both end
-  pub before-short : i < length a → length b ≤ i → before (drop i a) (drop i b) ≡ false
+  pub before-short : i < length a → length b ≤ i → precedes (drop i a) (drop i b) ≡ false
   before-short h k = rw (drop-cons a i 0 h, drop-all i b k)
 
-  pub before-ends : length a ≤ i → before (drop i a) (drop i b) ≡ ltb i (length b)
+  pub before-ends : length a ≤ i → precedes (drop i a) (drop i b) ≡ ltb i (length b)
   before-ends h = rw (drop-all i a h) (left b i)
     where
-      left : (l : List ℕ) (j : ℕ) → before [] (drop j l) ≡ ltb j (length l)
+      left : (l : List ℕ) (j : ℕ) → precedes [] (drop j l) ≡ ltb j (length l)
       left [] j = rw (drop-nil j) (sym (le-ltb j 0 (omega arith)))
       left (x ∷ l) zero = sym (lt-ltb 0 (suc (length l)) (omega arith))
       left (x ∷ l) (suc j) = left l j ∙ sym (leb·suc-suc (suc j) (length l))
 
   module _ (ha : i < length a) (hb : i < length b) where
-    before-cut : before (drop i a) (drop i b) ≡ (ltb (getD a i 0) (getD b i 0) || (eqb (getD a i 0) (getD b i 0) && before (drop (i + 1) a) (drop (i + 1) b)))
+    before-cut : precedes (drop i a) (drop i b) ≡ (ltb (getD a i 0) (getD b i 0) || (eqb (getD a i 0) (getD b i 0) && precedes (drop (i + 1) a) (drop (i + 1) b)))
     before-cut = rw (drop-cons a i 0 ha, drop-cons b i 0 hb, add-one i)
 
-    pub before-less : getD a i 0 < getD b i 0 → before (drop i a) (drop i b) ≡ true
+    pub before-less : getD a i 0 < getD b i 0 → precedes (drop i a) (drop i b) ≡ true
     before-less h = before-cut ∙ rw (lt-ltb (getD a i 0) (getD b i 0) h)
 
-    pub before-more : getD b i 0 < getD a i 0 → before (drop i a) (drop i b) ≡ false
+    pub before-more : getD b i 0 < getD a i 0 → precedes (drop i a) (drop i b) ≡ false
     before-more h = before-cut ∙ rw (le-ltb (getD a i 0) (getD b i 0) (omega arith), ne-eqb (getD a i 0) (getD b i 0) (λ e. omega arith))
 
-    pub before-same : getD a i 0 ≤ getD b i 0 → getD b i 0 ≤ getD a i 0 → before (drop i a) (drop i b) ≡ before (drop (i + 1) a) (drop (i + 1) b)
+    pub before-same : getD a i 0 ≤ getD b i 0 → getD b i 0 ≤ getD a i 0 → precedes (drop i a) (drop i b) ≡ precedes (drop (i + 1) a) (drop (i + 1) b)
     before-same h k = before-cut ∙ rw (le-ltb (getD a i 0) (getD b i 0) k, eq-eqb (getD a i 0) (getD b i 0) (omega arith))
 
 -- `fortmp`

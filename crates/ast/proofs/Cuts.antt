@@ -1,7 +1,7 @@
 -- Texts cut from bytes, one after the other.
 -- Assumes nothing.
 use mathlib.Core.Path.{_≡_, refl, sym, ap, _∙_}
-use mathlib.Core.Bool.{Bool, true, false, not, _&&_}
+use mathlib.Core.Bool.{Bool, true, not, _&&_, and-assoc}
 use mathlib.Core.List.{List, [], _∷_, _++_}
 use Prim.Native.Nat.{ℕ, _+_, _≤_, _<_, _-_}
 use native.Mathlib.Nat.{not-suc-le-zero}
@@ -10,8 +10,9 @@ use native.Mathlib.Omega.{arith}
 use lib.ListN.{length, getD, take, drop}
 use lib.Seq.{drop-drop, drop-cons, take-add}
 use Rattle.lent.specs.Bytes.{sameBytes}
-use Rattle.ast.specs.File.{sum, all, between, cut, fortmp, before, ascending, ordered}
+use Rattle.ast.specs.File.{between, cut, fortmp, precedes, ascending, ordered}
 use Rattle.ast.proofs.Scan.{drop-all}
+use Rattle.lent.specs.Lists.{sum, all}
 
 -- the next text, and the texts after it
 pub cut-next : (ns bs : List ℕ) (i at : ℕ) → i < length ns → cut (drop i ns) (drop at bs) ≡ take (getD ns i 0) (drop at bs) ∷ cut (drop (i + 1) ns) (drop (at + getD ns i 0) bs)
@@ -24,10 +25,6 @@ pub part-end : (at n : ℕ) → (at + n) - at ≡ n
 part-end at n = omega arith
 
 -- every byte of every text
-and-assoc : (a b c : Bool) → ((a && b) && c) ≡ (a && (b && c))
-and-assoc true b c = refl
-and-assoc false b c = refl
-
 all-append : (p : ℕ → Bool) (a b : List ℕ) → all p (a ++ b) ≡ (all p a && all p b)
 all-append p [] b = refl
 all-append p (x ∷ a) b = ap (λ (t : Bool). p x && t) (all-append p a b) ∙ sym (and-assoc (p x) (all p a) (all p b))
@@ -38,7 +35,7 @@ all-cut p (n ∷ ns) bs = ap (all p) (take-add n (sum ns) bs) ∙ all-append p (
 
 -- one pair is in order
 pub ascending-next : (a : List ℕ) (ns bs : List ℕ) (i at : ℕ) → i < length ns
-    → ascending (a ∷ cut (drop i ns) (drop at bs)) ≡ (before a (take (getD ns i 0) (drop at bs)) && ascending (take (getD ns i 0) (drop at bs) ∷ cut (drop (i + 1) ns) (drop (at + getD ns i 0) bs)))
+    → ascending (a ∷ cut (drop i ns) (drop at bs)) ≡ (precedes a (take (getD ns i 0) (drop at bs)) && ascending (take (getD ns i 0) (drop at bs) ∷ cut (drop (i + 1) ns) (drop (at + getD ns i 0) bs)))
 ascending-next a ns bs i at h = rw (cut-next ns bs i at h)
 
 pub ascending-end : (a : List ℕ) (ns bs : List ℕ) (i at : ℕ) → length ns ≤ i → ascending (a ∷ cut (drop i ns) (drop at bs)) ≡ true

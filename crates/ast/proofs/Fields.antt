@@ -1,20 +1,17 @@
 -- One node's field, at the front of the bodies.
 -- Assumes nothing.
 use mathlib.Core.Path.{_≡_, refl, sym, ap}
-use mathlib.Core.Bool.{Bool, true, false, _&&_}
+use mathlib.Core.Bool.{Bool, true, _&&_, and-true}
 use mathlib.Core.List.{List, [], _∷_}
 use Prim.Native.Nat.{ℕ, _≤_, _<_}
 use native.Mathlib.Nat.{not-suc-le-zero}
 use native.Mathlib.Omega.{arith}
-use lib.Dec.{ltb}
+use lib.Dec.{T, ltb, eqb→eq}
 use lib.ListN.{length, getD, take}
-use Rattle.ast.specs.Node.{kindOf, body, bodySize}
-use Rattle.ast.specs.File.{all, between, fieldOk}
-use Rattle.ast.proofs.Table.{one-text, no-field}
-
-and-true : (t : Bool) → (t && true) ≡ t
-and-true true = refl
-and-true false = refl
+use Rattle.ast.specs.Node.{kindOf, Body, nothing, elifs, texts, operator, number64, body, bodySize}
+use Rattle.ast.specs.File.{between, fieldOk}
+use Rattle.ast.proofs.Table.{simple, simple-body}
+use Rattle.lent.specs.Lists.{all}
 
 one : (p : ℕ → Bool) (b : List ℕ) → 1 ≤ length b → p (getD b 0 0) ≡ all p (take 1 b)
 one p [] h = absurd (not-suc-le-zero h)
@@ -24,6 +21,22 @@ two : (p : ℕ → Bool) (b : List ℕ) → 2 ≤ length b → (p (getD b 0 0) &
 two p [] h = absurd (not-suc-le-zero h)
 two p (x ∷ []) h = absurd (omega arith)
 two p (x ∷ (y ∷ b)) h = ap (λ (t : Bool). p x && t) (sym (and-true (p y)))
+
+-- bodies but 17, 18, 5 and 3
+module _ (t : ℕ) (b : List ℕ) where
+  one-text : (B : Body) → T (simple B) → bodySize B ≡ 1 → 1 ≤ length b → ltb (getD b 0 0) t ≡ fieldOk t B (take (bodySize B) b)
+  one-text nothing s e h = absurd (omega arith)
+  one-text elifs s e h = absurd s
+  one-text (texts n) s e h = rw e (one (λ (x : ℕ). ltb x t) b h)
+  one-text (operator n) s e h = absurd s
+  one-text number64 s e h = absurd (omega arith)
+
+  no-text : (B : Body) → T (simple B) → (bodySize B ≡ 1 → ⊥) → true ≡ fieldOk t B (take (bodySize B) b)
+  no-text nothing s e = refl
+  no-text elifs s e = refl
+  no-text (texts n) s e = absurd (e (eqb→eq n 1 s))
+  no-text (operator n) s e = absurd s
+  no-text number64 s e = refl
 
 module _ (t k : ℕ) (b : List ℕ) (fits : bodySize (body (kindOf k)) ≤ length b) where
   abbrev pub Field : Bool
@@ -46,7 +59,7 @@ module _ (t k : ℕ) (b : List ℕ) (fits : bodySize (body (kindOf k)) ≤ lengt
 
   module _ (known : k < 24) (n17 : k ≡ 17 → ⊥) (n18 : k ≡ 18 → ⊥) (n5 : k ≡ 5 → ⊥) (n3 : k ≡ 3 → ⊥) where
     pub text-field : bodySize (body (kindOf k)) ≡ 1 → ltb (getD b 0 0) t ≡ Field
-    text-field e = rw (e, one-text k known n17 n18 n5 n3 e) (one (λ (x : ℕ). ltb x t) b (room 1 e))
+    text-field e = one-text t b (body (kindOf k)) (simple-body k known n17 n18 n5 n3) e (room 1 e)
 
     pub other-field : (bodySize (body (kindOf k)) ≡ 1 → ⊥) → true ≡ Field
-    other-field e = sym (no-field k known n17 n18 n5 e t (take (bodySize (body (kindOf k))) b))
+    other-field e = no-text t b (body (kindOf k)) (simple-body k known n17 n18 n5 n3) e

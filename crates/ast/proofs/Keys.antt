@@ -1,7 +1,7 @@
 -- The keys of one table: marks of those before tell the same as the test for distinct keys.
 -- Assumes nothing.
 use mathlib.Core.Path.{_≡_, refl, sym, ap, subst, _∙_}
-use mathlib.Core.Bool.{Bool, true, false, not, _&&_, _||_}
+use mathlib.Core.Bool.{Bool, true, false, not, _&&_, _||_, or-true, or-false}
 use Prim.Native.Nat.{ℕ, zero, suc, _+_, _/_, _%_, _^_, _<_, _-_}
 use native.Mathlib.Nat.{div-self, div-eq-of-lt, mod-lt, mul-div-left, mul-mod-left, pow-suc, zero-lt-suc, zero-div}
 use native.Mathlib.Omega.{arith}
@@ -12,7 +12,7 @@ use lib.Pow.{pow-pos, pow-lt, pow-add}
 use borrow.Author.Tests.{ltb-true, ltb-false, eqb-true, eqb-false}
 use Rattle.ast.specs.Tree.{Items, noItems, moreItems}
 use Rattle.ast.specs.Structure.{hasKey, distinct}
-use Rattle.ast.specs.Pass.{marked, mark}
+use Rattle.ast.specs.inner.Pass.{bitIn, bitOf}
 
 -- ---- a bit of a mark, after a bit is set
 
@@ -48,41 +48,33 @@ set-other m i j n = by-test (ltb i j) refl
     by-test true e = set-below m i j (ltb-true i j e)
     by-test false e = set-above m i j (lt-of-le-ne (ltb-false i j e) n)
 
-or-true : (a : Bool) → (a || true) ≡ true
-or-true true = refl
-or-true false = refl
-
-or-false : (a : Bool) → (a || false) ≡ a
-or-false true = refl
-or-false false = refl
-
-marked-mark : (m k j : ℕ) → marked (mark m k) j ≡ (marked m j || eqb k j)
+marked-mark : (m k j : ℕ) → bitIn (bitOf m k) j ≡ (bitIn m j || eqb k j)
 marked-mark m k j = by-test (eqb k j) refl
   where
-    by-test : (t : Bool) → eqb k j ≡ t → marked (mark m k) j ≡ (marked m j || eqb k j)
+    by-test : (t : Bool) → eqb k j ≡ t → bitIn (bitOf m k) j ≡ (bitIn m j || eqb k j)
     by-test true e =
         let q = eqb-true k j e in
         let s : bitOr m (2 ^ k) / 2 ^ j % 2 ≡ 1 = subst (λ (i : ℕ). bitOr m (2 ^ k) / 2 ^ i % 2 ≡ 1) q (set-same m k) in
-        ap (λ (x : ℕ). eqb x 1) s ∙ sym (ap (λ (t : Bool). marked m j || t) e ∙ or-true (marked m j))
-    by-test false e = ap (λ (x : ℕ). eqb x 1) (set-other m k j (λ q. eqb-false k j e (sym q))) ∙ sym (ap (λ (t : Bool). marked m j || t) e ∙ or-false (marked m j))
+        ap (λ (x : ℕ). eqb x 1) s ∙ sym (ap (λ (t : Bool). bitIn m j || t) e ∙ or-true (bitIn m j))
+    by-test false e = ap (λ (x : ℕ). eqb x 1) (set-other m k j (λ q. eqb-false k j e (sym q))) ∙ sym (ap (λ (t : Bool). bitIn m j || t) e ∙ or-false (bitIn m j))
 
 -- ---- the keys of items
 
 abbrev pub keysOk : ℕ → Items → Bool
 keysOk m noItems = true
-keysOk m (moreItems k e is) = not (marked m k) && keysOk (mark m k) is
+keysOk m (moreItems k e is) = not (bitIn m k) && keysOk (bitOf m k) is
 
 absent : ℕ → Items → Bool
 absent m noItems = true
-absent m (moreItems k e is) = not (marked m k) && absent m is
+absent m (moreItems k e is) = not (bitIn m k) && absent m is
 
-absent-mark : (m k : ℕ) (is : Items) → absent (mark m k) is ≡ (absent m is && not (hasKey k is))
+absent-mark : (m k : ℕ) (is : Items) → absent (bitOf m k) is ≡ (absent m is && not (hasKey k is))
 unfolding absent
 absent-mark m k noItems = refl
 absent-mark m k (moreItems j e is) =
-    ap (λ (t : Bool). not t && absent (mark m k) is) (marked-mark m k j)
-    ∙ ap (λ (t : Bool). not (marked m j || eqb k j) && t) (absent-mark m k is)
-    ∙ algebra (marked m j) (eqb k j) (absent m is) (hasKey k is)
+    ap (λ (t : Bool). not t && absent (bitOf m k) is) (marked-mark m k j)
+    ∙ ap (λ (t : Bool). not (bitIn m j || eqb k j) && t) (absent-mark m k is)
+    ∙ algebra (bitIn m j) (eqb k j) (absent m is) (hasKey k is)
   where
     algebra : (a b x h : Bool) → (not (a || b) && (x && not h)) ≡ ((not a && x) && not (b || h))
     algebra true b x h = refl
@@ -94,16 +86,16 @@ keys-law : (m : ℕ) (is : Items) → keysOk m is ≡ (absent m is && distinct i
 unfolding absent
 keys-law m noItems = refl
 keys-law m (moreItems k e is) =
-    ap (λ (t : Bool). not (marked m k) && t) (keys-law (mark m k) is)
-    ∙ ap (λ (t : Bool). not (marked m k) && (t && distinct is)) (absent-mark m k is)
-    ∙ algebra (not (marked m k)) (absent m is) (not (hasKey k is)) (distinct is)
+    ap (λ (t : Bool). not (bitIn m k) && t) (keys-law (bitOf m k) is)
+    ∙ ap (λ (t : Bool). not (bitIn m k) && (t && distinct is)) (absent-mark m k is)
+    ∙ algebra (not (bitIn m k)) (absent m is) (not (hasKey k is)) (distinct is)
   where
     algebra : (n x h d : Bool) → (n && ((x && h) && d)) ≡ ((n && x) && (h && d))
     algebra true true h d = refl
     algebra true false h d = refl
     algebra false x h d = refl
 
-none-marked : (k : ℕ) → marked 0 k ≡ false
+none-marked : (k : ℕ) → bitIn 0 k ≡ false
 none-marked k = rw (zero-div (2 ^ k))
 
 absent-none : (is : Items) → absent 0 is ≡ true

@@ -9,13 +9,14 @@ use lib.Dec.{leb, eqb}
 use lib.ListN.{length, take, drop, length-drop}
 use lib.Seq.{drop-drop}
 use borrow.Author.Tests.{leb-true, le-leb, lt-leb, eq-eqb, ne-eqb, eqb-true, eqb-false}
-use Rattle.lent.specs.Parts.{length-part}
+use Rattle.lent.specs.laws.Parts.{length-part}
 use Rattle.ast.specs.Tree.{Stmts}
 use Rattle.ast.specs.Structure.{Parsed, Fails, Takes, parse}
-use Rattle.ast.specs.File.{nodeCount, textCount, contentsSize, lengths, entries, sum, bodiesSize, nodes, nodesFrom, all, between, nodeOk, countsOk, kindsOk, lengthsOk, textsOk, fieldsOk, Read, require, structured, readTree}
-use Rattle.ast.specs.Answer.{answerOf, parsed, orElse, partsAnswer}
+use Rattle.ast.specs.File.{nodeCount, textCount, contentsSize, lengths, entries, bodiesSize, nodes, nodesFrom, between, nodeOk, countsOk, kindsOk, lengthsOk, textsOk, fieldsOk, Read, require, structured, readTree}
+use Rattle.ast.specs.inner.Answer.{answerOf, parsed, orElse, partsAnswer}
 use Rattle.ast.proofs.Rooms.{to-end}
 use Rattle.ast.proofs.Cuts.{part-end}
+use Rattle.lent.specs.Lists.{sum, all}
 
 -- one check
 pub refuses : (t : Bool) (n r : ℕ) → t ≡ false → n ≡ orElse t n r

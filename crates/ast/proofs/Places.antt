@@ -3,7 +3,7 @@
 use mathlib.Core.Path.{_≡_, refl}
 use mathlib.Core.List.{List, [], _∷_}
 use Prim.Native.Nat.{ℕ, _+_, _^_}
-use Rattle.ast.specs.Pass as places
+use Rattle.ast.specs.inner.Pass as places
 
 ones : List ℕ → ℕ
 ones [] = 0
@@ -39,14 +39,14 @@ blocks : places.block ≡ ones (2 ∷ [])
 unfolding ones
 blocks = refl
 
-elifs : places.elif ≡ ones (4 ∷ [])
+elifs : places.elifBits ≡ ones (4 ∷ [])
 unfolding ones
 elifs = refl
 
-items : places.item ≡ ones (11 ∷ [])
+items : places.itemBits ≡ ones (11 ∷ [])
 unfolding ones
 items = refl
 
-literals : places.literal ≡ ones (19 ∷ 20 ∷ 22 ∷ 23 ∷ [])
+literals : places.literalBits ≡ ones (19 ∷ 20 ∷ 22 ∷ 23 ∷ [])
 unfolding ones
 literals = refl

@@ -11,9 +11,10 @@ use lib.ListN.{length, getD, take, drop, length-drop}
 use lib.Seq.{drop-drop, getD-drop, take-all}
 use borrow.Author.Tests.{leb-true}
 use Rattle.ast.specs.Node.{kindOf, body, bodySize, node}
-use Rattle.ast.specs.File.{nodesFrom, all, between, firsts}
-use Rattle.ast.specs.Room.{Room, none, one}
+use Rattle.ast.specs.File.{nodesFrom, between, firsts}
+use Rattle.ast.specs.inner.Room.{Room, none, one}
 use Rattle.ast.proofs.Scan.{bodyBytes}
+use Rattle.lent.specs.Lists.{all}
 
 abbrev pub sizeAt : List ℕ → ℕ
 sizeAt c = bodySize (body (kindOf (getD c 0 0)))

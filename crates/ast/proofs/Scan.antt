@@ -10,7 +10,8 @@ use native.Mathlib.Omega.{arith}
 use lib.ListN.{length, getD, drop, drop-of-length-le}
 use lib.Seq.{drop-cons}
 use Rattle.ast.specs.Node.{kindOf, body, bodySize}
-use Rattle.ast.specs.File.{all, firsts, sum, nodesFrom}
+use Rattle.ast.specs.File.{firsts, nodesFrom}
+use Rattle.lent.specs.Lists.{all, sum}
 
 -- one more test is passed
 pub turn : {w rest : Bool} (ok t rest′ : Bool) → w ≡ (ok && rest) → rest ≡ (t && rest′) → w ≡ ((ok && t) && rest′)

@@ -11,14 +11,14 @@ use Rattle.ast.specs.Node.{kBlock, kIf, kFor, kReturn, kExprStmt, kVarDe
 use Rattle.ast.specs.Node.{kArrayMut, kCall, kAssign, kBinary, kUnary, kNum, kText, kName, kTrue, kFalse, Kind, kProgram, kElif, kItem, kStmt, kRight, kExpr, Node, numberOf, kindOf, body, bodySize}
 use Rattle.ast.specs.Structure.{field}
 use Rattle.ast.specs.File.{nodesFrom}
-use Rattle.ast.specs.Pass as places
-use Rattle.ast.specs.Pass.{Left, wrong, left, only, then, times, stands, planOf, marked, mark, keyOf, keyedTimes, children, isTable, within, pass, Fit, Agrees, refuses, takes, shifted, began, unless}
+use Rattle.ast.specs.inner.Pass as places
+use Rattle.ast.specs.inner.Pass.{Remaining, wrong, left, keptIf, then, times, stands, planOf, bitIn, bitOf, keyOf, keyedTimes, children, isTable, inLimits, passOver, Fit, Agrees, refuses, takes, shifted, began, unless}
 use Rattle.ast.specs.declared.structure.Checked.{Checked}
 use Rattle.ast.specs.declared.structure.Checked.the-variants.{Bad}
 use Rattle.ast.specs.declared.structure.Plan.{Plan}
-use Rattle.ast.proofs.Table.{numbered}
+use Rattle.ast.specs.laws.Kinds.{number-kind}
 use Rattle.ast.proofs.Rooms.{First, sizeAt}
-use Rattle.ast.specs.Answer.{whole}
+use Rattle.ast.specs.inner.Answer.{allUsedUp}
 use Rattle.ast.proofs.Scan.{drop-all}
 use Rattle.ast.proofs.Agree.{Here, refused, fit-rest, first-here}
 use lib.Arith.{lt-of-le-ne}
@@ -27,40 +27,40 @@ use borrow.Author.Tests.{eqb-true, eqb-false}
 
 -- ---- a subtree
 
-pub at-stop : {c b : List ℕ} {x : Left} {p : Checked} (f : List Node → Left) → Agrees c b x p → p ≡ Bad → Agrees c b (then x f) p
+pub at-stop : {c b : List ℕ} {x : Remaining} {p : Checked} (f : List Node → Remaining) → Agrees c b x p → p ≡ Bad → Agrees c b (then x f) p
 at-stop f a e = rw (refused a e, e) refuses
 
-pub shift-agrees : {c b : List ℕ} (u v : ℕ) {y : Left} {r : Checked} → u ≤ length c → v ≤ length b → Agrees (drop u c) (drop v b) y r → Agrees c b y (shifted u v r)
+pub shift-agrees : {c b : List ℕ} (u v : ℕ) {y : Remaining} {r : Checked} → u ≤ length c → v ≤ length b → Agrees (drop u c) (drop v b) y r → Agrees c b y (shifted u v r)
 shift-agrees u v hu hv refuses = refuses
 shift-agrees {c} {b} u v hu hv (takes {u = i} {v = j} hi hj f n) =
     let dc = length-drop u c in
     let db = length-drop v b in
     takes {u = u + i} {v = v + j} (omega arith) (omega arith) (rw (drop-drop i u c, drop-drop j v b) at f) (rw (drop-drop i u c, drop-drop j v b) at n)
 
-pub at-go : {c b : List ℕ} {x : Left} {u v : ℕ} {r q : Checked} (f : List Node → Left) → Here c b x u v
+pub at-go : {c b : List ℕ} {x : Remaining} {u v : ℕ} {r q : Checked} (f : List Node → Remaining) → Here c b x u v
     → Agrees (drop u c) (drop v b) (f (nodesFrom (drop u c) (drop v b))) r → q ≡ shifted u v r → Agrees c b (then x f) q
 at-go {u = u} {v = v} f h a e = rw (h .nodes, e) (shift-agrees u v (h .inC) (h .inB) a)
 
 -- ---- subtrees: g is left to do of the whole
 
-pub record Reached (c b : List ℕ) (q : Checked) (whole : Left) (g : List Node → Left) : Type 0 where
-  pub so : Left
+pub record Reached (c b : List ℕ) (q : Checked) (allUsedUp : Remaining) (g : List Node → Remaining) : Type 0 where
+  pub so : Remaining
   pub agrees : Agrees c b so q
-  pub same : whole ≡ then so g
+  pub same : allUsedUp ≡ then so g
 
-pub start : {c b : List ℕ} {x : Left} {p : Checked} (g : List Node → Left) → Agrees c b x p → Reached c b p (then x g) g
+pub start : {c b : List ℕ} {x : Remaining} {p : Checked} (g : List Node → Remaining) → Agrees c b x p → Reached c b p (then x g) g
 start {x = x} g a = record { so = x; agrees = a; same = refl }
 
-then-left : (y : Left) → then y (λ ns. left ns) ≡ y
+then-left : (y : Remaining) → then y (λ ns. left ns) ≡ y
 then-left wrong = refl
 then-left (left ns) = refl
 
-then-then : (y : Left) (f g : List Node → Left) → then (then y f) g ≡ then y (λ ns. then (f ns) g)
+then-then : (y : Remaining) (f g : List Node → Remaining) → then (then y f) g ≡ then y (λ ns. then (f ns) g)
 then-then wrong f g = refl
 then-then (left ns) f g = refl
 
-module _ {c b : List ℕ} {q q′ : Checked} {whole : Left} (go : List Node → Left) (m : ℕ) where
-  pub run-turn : 0 < m → Reached c b q whole (λ ns. times go m ns) → ((y : Left) → Agrees c b y q → Agrees c b (then y go) q′) → Reached c b q′ whole (λ ns. times go (m - 1) ns)
+module _ {c b : List ℕ} {q q′ : Checked} {allUsedUp : Remaining} (go : List Node → Remaining) (m : ℕ) where
+  pub run-turn : 0 < m → Reached c b q allUsedUp (λ ns. times go m ns) → ((y : Remaining) → Agrees c b y q → Agrees c b (then y go) q′) → Reached c b q′ allUsedUp (λ ns. times go (m - 1) ns)
   run-turn h r f =
       let e : m ≡ suc (m - 1) = omega arith in
       record {
@@ -69,50 +69,50 @@ module _ {c b : List ℕ} {q q′ : Checked} {whole : Left} (go : List Node → 
         same = r .same ∙ ap (λ (j : ℕ). then (r .so) (λ ns. times go j ns)) e ∙ sym (then-then (r .so) go (λ ns. times go (m - 1) ns));
       }
 
-pub run-end : {c b : List ℕ} {q : Checked} {whole : Left} (go : List Node → Left) (m : ℕ) → m ≡ 0 → Reached c b q whole (λ ns. times go m ns) → Agrees c b whole q
+pub run-end : {c b : List ℕ} {q : Checked} {allUsedUp : Remaining} (go : List Node → Remaining) (m : ℕ) → m ≡ 0 → Reached c b q allUsedUp (λ ns. times go m ns) → Agrees c b allUsedUp q
 run-end {c} {b} {q} go m e r =
-    subst (λ (z : Left). Agrees c b z q) (sym (r .same ∙ ap (λ (j : ℕ). then (r .so) (λ ns. times go j ns)) e ∙ then-left (r .so))) (r .agrees)
+    subst (λ (z : Remaining). Agrees c b z q) (sym (r .same ∙ ap (λ (j : ℕ). then (r .so) (λ ns. times go j ns)) e ∙ then-left (r .so))) (r .agrees)
 
 -- ---- Items
 
-agrees-unless : {c b : List ℕ} {r : Checked} (t : Bool) (y : Left) → Agrees c b y r → Agrees c b (then y (λ ms. only (not t) (left ms))) (unless t r)
+agrees-unless : {c b : List ℕ} {r : Checked} (t : Bool) (y : Remaining) → Agrees c b y r → Agrees c b (then y (λ ms. keptIf (not t) (left ms))) (unless t r)
 agrees-unless true wrong a = refuses
 agrees-unless true (left ns) a = refuses
 agrees-unless false wrong a = a
 agrees-unless false (left ns) a = a
 
-same-key : (t : Bool) (y : Left) (g : List Node → Left) → then y (λ ms. only t (g ms)) ≡ then (then y (λ ms. only t (left ms))) g
+same-key : (t : Bool) (y : Remaining) (g : List Node → Remaining) → then y (λ ms. keptIf t (g ms)) ≡ then (then y (λ ms. keptIf t (left ms))) g
 same-key true wrong g = refl
 same-key false wrong g = refl
 same-key true (left ns) g = refl
 same-key false (left ns) g = refl
 
-same-keys : (go : List Node → Left) (keys k : ℕ) (y : Left) (n : ℕ) → ((ns : List Node) → y ≡ left ns → k ≡ keyOf ns)
-    → then y (λ ns. keyedTimes go keys (suc n) ns) ≡ then (then (then y go) (λ ms. only (not (marked keys k)) (left ms))) (λ ns. keyedTimes go (mark keys k) n ns)
+same-keys : (go : List Node → Remaining) (keys k : ℕ) (y : Remaining) (n : ℕ) → ((ns : List Node) → y ≡ left ns → k ≡ keyOf ns)
+    → then y (λ ns. keyedTimes go keys (suc n) ns) ≡ then (then (then y go) (λ ms. keptIf (not (bitIn keys k)) (left ms))) (λ ns. keyedTimes go (bitOf keys k) n ns)
 same-keys go keys k wrong n f = refl
-same-keys go keys k (left ns) n f = rw (← f ns refl) (same-key (not (marked keys k)) (go ns) (λ ms. keyedTimes go (mark keys k) n ms))
+same-keys go keys k (left ns) n f = rw (← f ns refl) (same-key (not (bitIn keys k)) (go ns) (λ ms. keyedTimes go (bitOf keys k) n ms))
 
-module _ {c b : List ℕ} {q r q′ : Checked} {whole : Left} (go : List Node → Left) (keys m k : ℕ) where
-  pub keyed-turn : 0 < m → Reached c b q whole (λ ns. keyedTimes go keys m ns) → ((ns : List Node) → Agrees c b (left ns) q → k ≡ keyOf ns)
-      → ((y : Left) → Agrees c b y q → Agrees c b (then y go) r) → q′ ≡ unless (marked keys k) r → Reached c b q′ whole (λ ns. keyedTimes go (mark keys k) (m - 1) ns)
+module _ {c b : List ℕ} {q r q′ : Checked} {allUsedUp : Remaining} (go : List Node → Remaining) (keys m k : ℕ) where
+  pub keyed-turn : 0 < m → Reached c b q allUsedUp (λ ns. keyedTimes go keys m ns) → ((ns : List Node) → Agrees c b (left ns) q → k ≡ keyOf ns)
+      → ((y : Remaining) → Agrees c b y q → Agrees c b (then y go) r) → q′ ≡ unless (bitIn keys k) r → Reached c b q′ allUsedUp (λ ns. keyedTimes go (bitOf keys k) (m - 1) ns)
   keyed-turn h s kf f e =
       let z : m ≡ suc (m - 1) = omega arith in
       record {
-        so = then (then (s .so) go) (λ ms. only (not (marked keys k)) (left ms));
-        agrees = rw e (agrees-unless (marked keys k) (then (s .so) go) (f (s .so) (s .agrees)));
+        so = then (then (s .so) go) (λ ms. keptIf (not (bitIn keys k)) (left ms));
+        agrees = rw e (agrees-unless (bitIn keys k) (then (s .so) go) (f (s .so) (s .agrees)));
         same =
             s .same
             ∙ ap (λ (j : ℕ). then (s .so) (λ ns. keyedTimes go keys j ns)) z
-            ∙ same-keys go keys k (s .so) (m - 1) (λ ns w. kf ns (subst (λ (y : Left). Agrees c b y q) w (s .agrees)));
+            ∙ same-keys go keys k (s .so) (m - 1) (λ ns w. kf ns (subst (λ (y : Remaining). Agrees c b y q) w (s .agrees)));
       }
 
-pub keyed-end : {c b : List ℕ} {q : Checked} {whole : Left} (go : List Node → Left) (keys m : ℕ) → m ≡ 0 → Reached c b q whole (λ ns. keyedTimes go keys m ns) → Agrees c b whole q
+pub keyed-end : {c b : List ℕ} {q : Checked} {allUsedUp : Remaining} (go : List Node → Remaining) (keys m : ℕ) → m ≡ 0 → Reached c b q allUsedUp (λ ns. keyedTimes go keys m ns) → Agrees c b allUsedUp q
 keyed-end {c} {b} {q} go keys m e r =
-    subst (λ (z : Left). Agrees c b z q) (sym (r .same ∙ ap (λ (j : ℕ). then (r .so) (λ ns. keyedTimes go keys j ns)) e ∙ then-left (r .so))) (r .agrees)
+    subst (λ (z : Remaining). Agrees c b z q) (sym (r .same ∙ ap (λ (j : ℕ). then (r .so) (λ ns. keyedTimes go keys j ns)) e ∙ then-left (r .so))) (r .agrees)
 
 -- ---- a node
 
-pub no-node : (d place l : ℕ) (f : Bool) (c b : List ℕ) → length c ≡ 0 → pass d place l f (nodesFrom c b) ≡ wrong
+pub no-node : (d place l : ℕ) (f : Bool) (c b : List ℕ) → length c ≡ 0 → passOver d place l f (nodesFrom c b) ≡ wrong
 no-node zero place l f c b h = refl
 no-node (suc d) place l f [] b h = refl
 no-node (suc d) place l f (x ∷ c) b h = absurd (omega arith)
@@ -157,62 +157,62 @@ module _ {c b : List ℕ} (d place l : ℕ) (f : Bool) (deep : d ≡ 0 → ⊥) 
   abbrev after : List Node
   after = nodesFrom (drop 2 c) (drop (sizeAt c) b)
 
-  abbrev go : ℕ → ℕ → Bool → List Node → Left
-  go q m h ms = pass (d - 1) q m h ms
+  abbrev go : ℕ → ℕ → Bool → List Node → Remaining
+  go q m h ms = passOver (d - 1) q m h ms
 
   abbrev thePlan : Plan
   thePlan = planOf (kindOf (getD c 0 0)) (getD c 1 0) (getD b 0 0) l f
 
-  pub pass-first : pass d place l f (nodesFrom c b) ≡ only (stands place (getD c 0 0)) (within go (kindOf (getD c 0 0)) (getD c 1 0) thePlan after)
+  pub pass-first : passOver d place l f (nodesFrom c b) ≡ keptIf (stands place (getD c 0 0)) (inLimits go (kindOf (getD c 0 0)) (getD c 1 0) thePlan after)
   pass-first =
       let e : d ≡ suc (d - 1) = omega arith in
-      ap (λ (j : ℕ). pass j place l f (nodesFrom c b)) e
-      ∙ ap (pass (suc (d - 1)) place l f) (g .nodes)
-      ∙ ap (λ (n : ℕ). only (stands place n) (within go (kindOf (getD c 0 0)) (getD c 1 0) (planOf (kindOf (getD c 0 0)) (getD c 1 0) (field (take (sizeAt c) b) 0) l f) after)) (numbered (getD c 0 0) (g .least) (g .known))
-      ∙ ap (λ (p : Plan). only (stands place (getD c 0 0)) (within go (kindOf (getD c 0 0)) (getD c 1 0) p after)) (plan-elifs (kindOf (getD c 0 0)) (getD c 1 0) b l f)
+      ap (λ (j : ℕ). passOver j place l f (nodesFrom c b)) e
+      ∙ ap (passOver (suc (d - 1)) place l f) (g .nodes)
+      ∙ ap (λ (n : ℕ). keptIf (stands place n) (inLimits go (kindOf (getD c 0 0)) (getD c 1 0) (planOf (kindOf (getD c 0 0)) (getD c 1 0) (field (take (sizeAt c) b) 0) l f) after)) (number-kind (getD c 0 0) (g .least) (g .known))
+      ∙ ap (λ (p : Plan). keptIf (stands place (getD c 0 0)) (inLimits go (kindOf (getD c 0 0)) (getD c 1 0) p after)) (plan-elifs (kindOf (getD c 0 0)) (getD c 1 0) b l f)
 
-  pub not-there : stands place (getD c 0 0) ≡ false → pass d place l f (nodesFrom c b) ≡ wrong
-  not-there e = pass-first ∙ ap (λ (t : Bool). only t (within go (kindOf (getD c 0 0)) (getD c 1 0) thePlan after)) e
+  pub not-there : stands place (getD c 0 0) ≡ false → passOver d place l f (nodesFrom c b) ≡ wrong
+  not-there e = pass-first ∙ ap (λ (t : Bool). keptIf t (inLimits go (kindOf (getD c 0 0)) (getD c 1 0) thePlan after)) e
 
-  pub begun : (t : Bool) → Agrees c b (only t (left after)) (began t (sizeAt c))
+  pub begun : (t : Bool) → Agrees c b (keptIf t (left after)) (began t (sizeAt c))
   begun true = takes (g .two) (g .fits) (fit-rest fit g) refl
   begun false = refuses
 
   module _ (there : stands place (getD c 0 0) ≡ true) {plan : Plan} (ep : plan ≡ thePlan) {s : ℕ} (es : s ≡ sizeAt c) {p : Checked} (eb : p ≡ began (plan .fits) s) where
-    pub begins : Agrees c b (only (plan .fits) (left after)) p
+    pub begins : Agrees c b (keptIf (plan .fits) (left after)) p
     begins = rw (eb, es) (begun (plan .fits))
 
-    pub starts : (x : Left) × Agrees c b x p
-    starts = (only (plan .fits) (left after), begins)
+    pub starts : (x : Remaining) × Agrees c b x p
+    starts = (keptIf (plan .fits) (left after), begins)
 
-    inner : pass d place l f (nodesFrom c b) ≡ within go (kindOf (getD c 0 0)) (getD c 1 0) plan after
+    inner : passOver d place l f (nodesFrom c b) ≡ inLimits go (kindOf (getD c 0 0)) (getD c 1 0) plan after
     inner =
         pass-first
-        ∙ ap (λ (t : Bool). only t (within go (kindOf (getD c 0 0)) (getD c 1 0) thePlan after)) there
-        ∙ ap (λ (o : Plan). within go (kindOf (getD c 0 0)) (getD c 1 0) o after) (sym ep)
+        ∙ ap (λ (t : Bool). keptIf t (inLimits go (kindOf (getD c 0 0)) (getD c 1 0) thePlan after)) there
+        ∙ ap (λ (o : Plan). inLimits go (kindOf (getD c 0 0)) (getD c 1 0) o after) (sym ep)
 
     pub table-node : {r : Checked} → getD c 0 0 ≡ 10 → {n : ℕ} → n ≡ getD c 1 0
-        → ((x : Left) → Agrees c b x p → Agrees c b (then x (λ ns. keyedTimes (λ ms. pass (d - 1) places.item 0 false ms) 0 n ns)) r) → Agrees c b (pass d place l f (nodesFrom c b)) r
+        → ((x : Remaining) → Agrees c b x p → Agrees c b (then x (λ ns. keyedTimes (λ ms. passOver (d - 1) places.itemBits 0 false ms) 0 n ns)) r) → Agrees c b (passOver d place l f (nodesFrom c b)) r
     table-node {r} e {n} en h =
-        subst (λ (z : Left). Agrees c b z r)
-        (sym (inner ∙ ap (λ (k : ℕ). within go (kindOf k) (getD c 1 0) plan after) e))
-        (subst (λ (j : ℕ). Agrees c b (then (only (plan .fits) (left after)) (λ ns. keyedTimes (λ ms. pass (d - 1) places.item 0 false ms) 0 j ns)) r) en (h _ begins))
+        subst (λ (z : Remaining). Agrees c b z r)
+        (sym (inner ∙ ap (λ (k : ℕ). inLimits go (kindOf k) (getD c 1 0) plan after) e))
+        (subst (λ (j : ℕ). Agrees c b (then (keptIf (plan .fits) (left after)) (λ ns. keyedTimes (λ ms. passOver (d - 1) places.itemBits 0 false ms) 0 j ns)) r) en (h _ begins))
 
     pub other-node : {r : Checked} → (getD c 0 0 ≡ 10 → ⊥)
-        → ((x : Left) → Agrees c b x p → Agrees c b (children (λ q m k ms. pass (d - 1) q m k ms) plan x) r) → Agrees c b (pass d place l f (nodesFrom c b)) r
+        → ((x : Remaining) → Agrees c b x p → Agrees c b (children (λ q m k ms. passOver (d - 1) q m k ms) plan x) r) → Agrees c b (passOver d place l f (nodesFrom c b)) r
     other-node {r} n h =
-        subst (λ (z : Left). Agrees c b z r)
+        subst (λ (z : Remaining). Agrees c b z r)
         (sym (inner ∙ ap (λ (t : Bool). cond t
-        (then (only (plan .fits) (left after)) (λ ms. keyedTimes (λ ks. go places.item 0 false ks) 0 (getD c 1 0) ms))
-        (children go plan (only (plan .fits) (left after)))) (no-table (kindOf (getD c 0 0)) (λ e. n (sym (numbered (getD c 0 0) (g .least) (g .known)) ∙ e)))))
+        (then (keptIf (plan .fits) (left after)) (λ ms. keyedTimes (λ ks. go places.itemBits 0 false ks) 0 (getD c 1 0) ms))
+        (children go plan (keptIf (plan .fits) (left after)))) (no-table (kindOf (getD c 0 0)) (λ e. n (sym (number-kind (getD c 0 0) (g .least) (g .known)) ∙ e)))))
         (h _ begins)
 
 -- ---- the whole
 
-pub all-nodes : {c b : List ℕ} {x : Left} {u v : ℕ} → Here c b x u v → eqb u (length c) ≡ whole x
+pub all-nodes : {c b : List ℕ} {x : Remaining} {u v : ℕ} → Here c b x u v → eqb u (length c) ≡ allUsedUp x
 all-nodes {c} {b} {x} {u} {v} h = by-test (eqb u (length c)) refl
   where
-    by-test : (t : Bool) → eqb u (length c) ≡ t → eqb u (length c) ≡ whole x
+    by-test : (t : Bool) → eqb u (length c) ≡ t → eqb u (length c) ≡ allUsedUp x
     by-test true e = e ∙ rw (h .nodes, drop-all u c (omega (arith, eqb-true u (length c) e)))
     by-test false e =
         let l : u < length c = lt-of-le-ne (h .inC) (eqb-false u (length c) e) in

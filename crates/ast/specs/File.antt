@@ -1,13 +1,15 @@
 -- The tree file: document 01, "The tree file", and the refusals 1 to 5 in the order of "Lowering checks in this order". Definitions only.
-use Prim.Native.Nat.{ℕ, zero, suc, _+_, _*_}
-use mathlib.Core.Bool.{Bool, true, false, cond, not, _&&_, _||_}
+use Prim.Native.Nat.{ℕ, _+_, _*_}
+use mathlib.Core.Bool.{Bool, true, false, not, _&&_, _||_}
 use mathlib.Core.List.{List, [], _∷_, map}
 use lib.Dec.{leb, ltb, eqb}
 use lib.ListN.{length, getD, take, drop}
 use Rattle.lent.specs.Bytes.{beValue, part, sameBytes}
 use Rattle.ast.specs.Tree.{Stmts}
-use Rattle.ast.specs.Node.{Kind, kindOf, Body, nothing, elifs, texts, operator, binary64, body, bodySize, Node, node}
+use Rattle.ast.specs.Node.{kindOf, Body, nothing, elifs, texts, operator, number64, body, bodySize, Node, node}
 use Rattle.ast.specs.Structure.{Parsed, Fails, Takes, parse}
+use Rattle.lent.specs.Lists.{all, sum}
+use Rattle.lent.specs.Refusals.{fileCut, badCounts, badTexts, badStructure, badNumbers}
 
 -- ---- the contents: node count, text count, a length per text, kind and child count per node
 
@@ -34,10 +36,6 @@ firsts (k ∷ (c ∷ es)) = k ∷ firsts es
 
 -- ---- the bodies: the texts', then the nodes'
 
-abbrev pub sum : List ℕ → ℕ
-sum [] = 0
-sum (n ∷ ns) = n + sum ns
-
 abbrev pub nodeBodies : List ℕ → List ℕ
 nodeBodies f = drop (contentsSize f + sum (lengths f)) f
 
@@ -63,10 +61,6 @@ nodes f = nodesFrom (entries f) (nodeBodies f)
 
 -- ---- tests
 
-abbrev pub all : {A : Type 0} → (A → Bool) → List A → Bool
-all p [] = true
-all p (a ∷ l) = p a && all p l
-
 abbrev pub between : ℕ → ℕ → ℕ → Bool
 between a b n = leb a n && leb n b
 
@@ -87,16 +81,16 @@ abbrev pub fortmp : List ℕ
 fortmp = 102 ∷ (111 ∷ (114 ∷ (116 ∷ (109 ∷ (112 ∷ [])))))
 
 -- "ascend strictly by bytes"
-abbrev pub before : List ℕ → List ℕ → Bool
-before [] [] = false
-before [] (y ∷ b) = true
-before (x ∷ a) [] = false
-before (x ∷ a) (y ∷ b) = ltb x y || (eqb x y && before a b)
+abbrev pub precedes : List ℕ → List ℕ → Bool
+precedes [] [] = false
+precedes [] (y ∷ b) = true
+precedes (x ∷ a) [] = false
+precedes (x ∷ a) (y ∷ b) = ltb x y || (eqb x y && precedes a b)
 
 abbrev pub ascending : List (List ℕ) → Bool
 ascending [] = true
 ascending (a ∷ []) = true
-ascending (a ∷ (b ∷ l)) = before a b && ascending (b ∷ l)
+ascending (a ∷ (b ∷ l)) = precedes a b && ascending (b ∷ l)
 
 abbrev pub ordered : List (List ℕ) → Bool
 ordered [] = false
@@ -111,7 +105,7 @@ fieldOk t nothing b = true
 fieldOk t elifs b = true
 fieldOk t (texts n) b = all (λ x. ltb x t) b
 fieldOk t (operator n) b = all (between 1 n) b
-fieldOk t binary64 b = true
+fieldOk t number64 b = true
 
 abbrev pub nodeOk : ℕ → Node → Bool
 nodeOk t (node k c b) = fieldOk t (body k) b
@@ -130,18 +124,18 @@ require true n r = r
 require false n r = Refused n
 
 abbrev pub structured : Parsed Stmts → Read
-structured Fails = Refused 4
+structured Fails = Refused badStructure
 structured (Takes t ns) = Tree t
 
 -- "1 (under 3 bytes); 2; 1 (contents); 4 (unknown kind); 3 (length); 1 (bodies); 3; 5; 4"
 unfoldable pub readTree : List ℕ → Read
 readTree f =
-    require (leb 3 (length f)) 1
-    (require (countsOk f) 2
-    (require (leb (contentsSize f) (length f)) 1
-    (require (kindsOk f) 4
-    (require (lengthsOk f) 3
-    (require (eqb (contentsSize f + bodiesSize f) (length f)) 1
-    (require (textsOk f) 3
-    (require (fieldsOk f) 5
+    require (leb 3 (length f)) fileCut
+    (require (countsOk f) badCounts
+    (require (leb (contentsSize f) (length f)) fileCut
+    (require (kindsOk f) badStructure
+    (require (lengthsOk f) badTexts
+    (require (eqb (contentsSize f + bodiesSize f) (length f)) fileCut
+    (require (textsOk f) badTexts
+    (require (fieldsOk f) badNumbers
     (structured (parse (nodes f))))))))))

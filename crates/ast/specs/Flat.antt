@@ -1,6 +1,6 @@
 -- A tree's nodes in preorder, and their bytes: the other direction of reading. Definitions only.
-use Prim.Native.Nat.{ℕ, zero, suc, _+_}
-use mathlib.Core.Bool.{Bool, true, false}
+use Prim.Native.Nat.{ℕ, suc, _+_}
+use mathlib.Core.Bool.{true, false}
 use mathlib.Core.List.{List, [], _∷_, _++_}
 use lib.ListN.{length}
 use Rattle.lent.specs.Bytes.{beBytes}
@@ -12,24 +12,24 @@ use Rattle.ast.specs.Tree.{Expr, Literal, Name, BinaryExpr, UnaryExpr, V
 use Rattle.ast.specs.Tree.{Exprs, noExprs, moreExprs, Items, noItems, moreItems, Source, OverName, OverCall}
 use Rattle.ast.specs.Tree.{Stmt, Block, IfStmt, ForStmt, Return, ReturnExpr, ExprStmt, VarDecl, VarInit, FnDecl, Stmts, noStmts, moreStmts, Rest, Else, Elif}
 
-abbrev pub binNumber : BinTok → ℕ
-binNumber Plus = 1
-binNumber Minus = 2
-binNumber Star = 3
-binNumber Slash = 4
-binNumber Percent = 5
-binNumber EqEq = 6
-binNumber LtEq = 7
-binNumber Lt = 8
-binNumber GtEq = 9
-binNumber Gt = 10
-binNumber AmpAmp = 11
-binNumber PipePipe = 12
-binNumber BangEq = 13
+abbrev pub binTokNumber : BinTok → ℕ
+binTokNumber Plus = 1
+binTokNumber Minus = 2
+binTokNumber Star = 3
+binTokNumber Slash = 4
+binTokNumber Percent = 5
+binTokNumber EqEq = 6
+binTokNumber LtEq = 7
+binTokNumber Lt = 8
+binTokNumber GtEq = 9
+binTokNumber Gt = 10
+binTokNumber AmpAmp = 11
+binTokNumber PipePipe = 12
+binTokNumber BangEq = 13
 
-abbrev pub unNumber : UnTok → ℕ
-unNumber Bang = 1
-unNumber Negate = 2
+abbrev pub unTokNumber : UnTok → ℕ
+unTokNumber Bang = 1
+unTokNumber Negate = 2
 
 abbrev pub flatLit : Lit → Node
 flatLit (Val b) = node (kExpr kNum) 0 (beBytes 8 b)
@@ -56,8 +56,8 @@ abbrev mutual
   pub flatExpr : Expr → List Node
   flatExpr (Literal l) = flatLit l ∷ []
   flatExpr (Name x) = flatName x ∷ []
-  flatExpr (BinaryExpr t a b) = node (kExpr kBinary) 2 (binNumber t ∷ []) ∷ (flatExpr a ++ flatExpr b)
-  flatExpr (UnaryExpr t a) = node (kExpr kUnary) 1 (unNumber t ∷ []) ∷ flatExpr a
+  flatExpr (BinaryExpr t a b) = node (kExpr kBinary) 2 (binTokNumber t ∷ []) ∷ (flatExpr a ++ flatExpr b)
+  flatExpr (UnaryExpr t a) = node (kExpr kUnary) 1 (unTokNumber t ∷ []) ∷ flatExpr a
   flatExpr (VarAssign x r) = node (kExpr kAssign) 1 (x ∷ []) ∷ flatRhs r
   flatExpr (ArrayMut x i v) = node (kExpr kArrayMut) 2 (x ∷ []) ∷ (flatExpr i ++ flatExpr v)
   flatExpr (FnCall f ps) = node (kExpr kCall) (exprCount ps) (f ∷ []) ∷ flatExprs ps

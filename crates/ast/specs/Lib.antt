@@ -5,14 +5,6 @@ pub mod Structure
 pub mod File
 pub mod Flat
 pub mod Limits
-pub mod Pieces
-pub mod Sound
-pub mod Complete
-pub mod Entries
-pub mod Reading
-pub mod Room
-pub mod Pass
-pub mod Answer
-pub mod Under
-pub mod Preorder
-pub mod PlainFile
+pub mod TreeFile
+pub mod inner
+pub mod laws

@@ -64,7 +64,7 @@ pub data Body : Type 0 where
   -- an operator from 1 to so many
   operator : ℕ → Body
   -- 8 bytes, binary64
-  binary64 : Body
+  number64 : Body
 
 abbrev pub body : Kind → Body
 body kProgram = nothing
@@ -85,7 +85,7 @@ body (kExpr kCall) = texts 1
 body (kExpr kAssign) = texts 1
 body (kExpr kBinary) = operator 13
 body (kExpr kUnary) = operator 2
-body (kExpr kNum) = binary64
+body (kExpr kNum) = number64
 body (kExpr kText) = texts 1
 body (kExpr kName) = texts 1
 body (kExpr kTrue) = nothing
@@ -96,7 +96,7 @@ bodySize nothing = 0
 bodySize elifs = 1
 bodySize (texts n) = n
 bodySize (operator n) = 1
-bodySize binary64 = 8
+bodySize number64 = 8
 
 -- a node: its kind, its child count, its body's bytes
 pub data Node : Type 0 where

@@ -1,5 +1,5 @@
 -- The structure of the nodes, refusal 4: document 01, "Numbers given for the input" and the table of "The tree file", column "Children". Nodes stand in
--- preorder. A parser takes the depth that is left, which falls by one with each child, and the nodes; it gives a tree and the nodes behind it. Definitions only.
+-- preorder. A parser takes nodes; it gives a tree and the nodes behind it. What may stand at a place is said kind by kind. Definitions only.
 use Prim.Native.Nat.{ℕ, zero, suc, _+_, _-_}
 use mathlib.Core.Bool.{Bool, true, false, cond, not, _&&_, _||_}
 use mathlib.Core.List.{List, [], _∷_}
@@ -7,7 +7,7 @@ use lib.Dec.{leb, eqb}
 use lib.ListN.{length, getD}
 use Rattle.lent.specs.Bytes.{beValue}
 use Rattle.ast.specs.Node.{StmtKind, kBlock, kIf, kFor, kReturn, kExprStmt, kVarDecl, kFnDecl, RightKind, kTable, kArray, kArrayAccess}
-use Rattle.ast.specs.Node.{ExprKind, kArrayMut, kCall, kAssign, kBinary, kUnary, kNum, kText, kName, kTrue, kFalse, Kind, kProgram, kElif, kItem, kStmt, kRight, kExpr, Node, node}
+use Rattle.ast.specs.Node.{ExprKind, kArrayMut, kCall, kAssign, kBinary, kUnary, kNum, kText, kName, kTrue, kFalse, Kind, kProgram, kElif, kItem, kStmt, kRight, kExpr, numberOf, Node, node}
 use Rattle.ast.specs.Tree.{BinTok, Plus, Minus, Star, Slash, Percent, EqEq, LtEq, Lt, GtEq, Gt, AmpAmp, PipePipe, BangEq, UnTok, Bang, Negate, Lit, Val, Text, Truth}
 use Rattle.ast.specs.Tree.{Expr, Literal, Name, BinaryExpr, UnaryExpr, VarAssign, ArrayMut, FnCall, Rhs, Expression, Table, Array, ArrayAccess}
 use Rattle.ast.specs.Tree.{Exprs, noExprs, moreExprs, Items, noItems, moreItems, Source, OverName, OverCall}
@@ -29,6 +29,10 @@ abbrev pub guard : {A : Type 0} → Bool → Parsed A → Parsed A
 guard true p = p
 guard false p = Fails
 
+-- a tree of what was parsed
+abbrev pub making : {A B : Type 0} → (A → B) → A → List Node → Parsed B
+making f a ns = Takes (f a) ns
+
 -- n children, one after the other
 abbrev pub many : {A B : Type 0} → (A → B → B) → B → (List Node → Parsed A) → ℕ → List Node → Parsed B
 many c z p zero ns = Takes z ns
@@ -49,119 +53,43 @@ binTok n = getD binToks (n - 1) Plus
 abbrev pub unTok : ℕ → UnTok
 unTok n = cond (eqb n 1) Bang Negate
 
--- ---- expressions and right sides
+-- ---- places: what may stand there, kind by kind
 
--- what may stand in an Array: 19, 20, 22, 23
-abbrev pub asLit : Expr → List Node → Parsed Lit
-asLit (Literal l) ns = Takes l ns
-asLit (Name x) ns = Fails
-asLit (BinaryExpr t a b) ns = Fails
-asLit (UnaryExpr t a) ns = Fails
-asLit (VarAssign x r) ns = Fails
-asLit (ArrayMut x i v) ns = Fails
-asLit (FnCall f ps) ns = Fails
+-- the rule of a kind: from the child count, the body and the nodes behind the entry
+abbrev pub Rule : Type 0 → Type 0
+Rule A = ℕ → List ℕ → List Node → Parsed A
+
+abbrev pub noRule : {K A : Type 0} → K → Rule A
+noRule k c b ns = Fails
+
+-- kind j by the rule r, and the kinds of another place
+abbrev pub orKind : {A : Type 0} → Kind → Rule A → (Kind → Rule A) → Kind → Rule A
+orKind j r others k = cond (eqb (numberOf j) (numberOf k)) r (others k)
+
+-- statements, right sides and expressions
+abbrev pub byClass : {A : Type 0} → (StmtKind → Rule A) → (RightKind → Rule A) → (ExprKind → Rule A) → Kind → Rule A
+byClass s r e kProgram c b ns = Fails
+byClass s r e kElif c b ns = Fails
+byClass s r e kItem c b ns = Fails
+byClass s r e (kStmt k) c b ns = s k c b ns
+byClass s r e (kRight k) c b ns = r k c b ns
+byClass s r e (kExpr k) c b ns = e k c b ns
+
+abbrev pub at : {A : Type 0} → (Kind → Rule A) → List Node → Parsed A
+at place [] = Fails
+at place (node k c b ∷ ns) = place k c b ns
+
+-- a node with no children
+abbrev pub childless : {A : Type 0} → (List ℕ → A) → Rule A
+childless f c b ns = guard (eqb c 0) (Takes (f b) ns)
+
+-- ---- the table, column "Children": p parses what stands below a node
 
 pub data Keyed : Type 0 where
   keyed : ℕ → Expr → Keyed
 
 abbrev pub moreKeyed : Keyed → Items → Items
 moreKeyed (keyed k e) is = moreItems k e is
-
--- 11: one expression; key
-abbrev pub itemNode : (List Node → Parsed Expr) → List Node → Parsed Keyed
-itemNode e [] = Fails
-itemNode e (node kProgram c b ∷ ns) = Fails
-itemNode e (node kElif c b ∷ ns) = Fails
-itemNode e (node kItem c b ∷ ns) = guard (eqb c 1) (e ns >>= λ t ms. Takes (keyed (field b 0) t) ms)
-itemNode e (node (kStmt k) c b ∷ ns) = Fails
-itemNode e (node (kRight k) c b ∷ ns) = Fails
-itemNode e (node (kExpr k) c b ∷ ns) = Fails
-
--- kinds 14 to 23: e and r parse children
-module _ (e : List Node → Parsed Expr) (r : List Node → Parsed Rhs) where
-  abbrev pub exprKind : ExprKind → ℕ → List ℕ → List Node → Parsed Expr
-  exprKind kArrayMut c b ns = guard (eqb c 2) (e ns >>= λ i ms. e ms >>= λ v ks. Takes (ArrayMut (field b 0) i v) ks)
-  exprKind kCall c b ns = many moreExprs noExprs e c ns >>= λ ps ms. Takes (FnCall (field b 0) ps) ms
-  exprKind kAssign c b ns = guard (eqb c 1) (r ns >>= λ t ms. Takes (VarAssign (field b 0) t) ms)
-  exprKind kBinary c b ns = guard (eqb c 2) (e ns >>= λ x ms. e ms >>= λ y ks. Takes (BinaryExpr (binTok (field b 0)) x y) ks)
-  exprKind kUnary c b ns = guard (eqb c 1) (e ns >>= λ x ms. Takes (UnaryExpr (unTok (field b 0)) x) ms)
-  exprKind kNum c b ns = guard (eqb c 0) (Takes (Literal (Val (beValue b))) ns)
-  exprKind kText c b ns = guard (eqb c 0) (Takes (Literal (Text (field b 0))) ns)
-  exprKind kName c b ns = guard (eqb c 0) (Takes (Name (field b 0)) ns)
-  exprKind kTrue c b ns = guard (eqb c 0) (Takes (Literal (Truth true)) ns)
-  exprKind kFalse c b ns = guard (eqb c 0) (Takes (Literal (Truth false)) ns)
-
-  abbrev pub exprNode : List Node → Parsed Expr
-  exprNode [] = Fails
-  exprNode (node kProgram c b ∷ ns) = Fails
-  exprNode (node kElif c b ∷ ns) = Fails
-  exprNode (node kItem c b ∷ ns) = Fails
-  exprNode (node (kStmt k) c b ∷ ns) = Fails
-  exprNode (node (kRight k) c b ∷ ns) = Fails
-  exprNode (node (kExpr k) c b ∷ ns) = exprKind k c b ns
-
-  -- kinds 10, 12, 13: i parses an Item
-  module _ (i : List Node → Parsed Keyed) where
-    abbrev pub rightKind : RightKind → ℕ → List ℕ → List Node → Parsed Rhs
-    rightKind kTable c b ns = many moreKeyed noItems i c ns >>= λ is ms. Takes (Table is) ms
-    rightKind kArray c b ns = many _∷_ [] (λ ms. e ms >>= asLit) c ns >>= λ ls ms. Takes (Array (field b 0) ls) ms
-    rightKind kArrayAccess c b ns = guard (eqb c 1) (e ns >>= λ x ms. Takes (ArrayAccess (field b 0) x) ms)
-
-    abbrev pub rhsNode : List Node → Parsed Rhs
-    rhsNode [] = Fails
-    rhsNode (node kProgram c b ∷ ns) = Fails
-    rhsNode (node kElif c b ∷ ns) = Fails
-    rhsNode (node kItem c b ∷ ns) = Fails
-    rhsNode (node (kStmt k) c b ∷ ns) = Fails
-    rhsNode (node (kRight k) c b ∷ ns) = rightKind k c b ns
-    rhsNode (node (kExpr k) c b ∷ ns) = exprKind k c b ns >>= λ t ms. Takes (Expression t) ms
-
-abbrev mutual
-  pub expr : ℕ → List Node → Parsed Expr
-  expr zero ns = Fails
-  expr (suc d) ns = exprNode (λ ms. expr d ms) (λ ms. rhs d ms) ns
-
-  pub rhs : ℕ → List Node → Parsed Rhs
-  rhs zero ns = Fails
-  rhs (suc d) ns = rhsNode (λ ms. expr d ms) (λ ms. rhs d ms) (λ ms. item d ms) ns
-
-  pub item : ℕ → List Node → Parsed Keyed
-  item zero ns = Fails
-  item (suc d) ns = itemNode (λ ms. expr d ms) ns
-
--- ---- statements
-
--- what a For goes over: Name or Call
-abbrev pub asSource : Expr → List Node → Parsed Source
-asSource (Literal l) ns = Fails
-asSource (Name x) ns = Takes (OverName x) ns
-asSource (BinaryExpr t a b) ns = Fails
-asSource (UnaryExpr t a) ns = Fails
-asSource (VarAssign x r) ns = Fails
-asSource (ArrayMut x i v) ns = Fails
-asSource (FnCall f ps) ns = Takes (OverCall f ps) ns
-
--- a parameter of a FnDecl: Name
-abbrev pub asName : Expr → List Node → Parsed ℕ
-asName (Literal l) ns = Fails
-asName (Name x) ns = Takes x ns
-asName (BinaryExpr t a b) ns = Fails
-asName (UnaryExpr t a) ns = Fails
-asName (VarAssign x r) ns = Fails
-asName (ArrayMut x i v) ns = Fails
-asName (FnCall f ps) ns = Fails
-
--- a Block where one has to stand
-abbrev pub asBlock : Stmt → List Node → Parsed Stmts
-asBlock (Block b) ns = Takes b ns
-asBlock (IfStmt c b k) ns = Fails
-asBlock (ForStmt i v s b) ns = Fails
-asBlock Return ns = Fails
-asBlock (ReturnExpr e) ns = Fails
-asBlock (ExprStmt e) ns = Fails
-asBlock (VarDecl x) ns = Fails
-asBlock (VarInit x r) ns = Fails
-asBlock (FnDecl f ps b) ns = Fails
 
 pub data Arm : Type 0 where
   arm : Expr → Stmts → Arm
@@ -171,51 +99,107 @@ abbrev pub restOf : List Arm → Stmts → Rest
 restOf [] t = Else t
 restOf (arm c b ∷ l) t = Elif c b (restOf l t)
 
--- 4: condition, Block
-abbrev pub elifNode : (List Node → Parsed Expr) → (List Node → Parsed Stmt) → List Node → Parsed Arm
-elifNode e s [] = Fails
-elifNode e s (node kProgram c b ∷ ns) = Fails
-elifNode e s (node kElif c b ∷ ns) = guard (eqb c 2) (e ns >>= λ t ms. s ms >>= asBlock >>= λ k ks. Takes (arm t k) ks)
-elifNode e s (node kItem c b ∷ ns) = Fails
-elifNode e s (node (kStmt k) c b ∷ ns) = Fails
-elifNode e s (node (kRight k) c b ∷ ns) = Fails
-elifNode e s (node (kExpr k) c b ∷ ns) = Fails
+-- the places: an expression; a right side; an Item; in an Array; a parameter of a FnDecl; what a For goes over; a statement; a Block, where one has to
+-- stand; an Elif
+pub record Parsers : Type 0 where
+  pub expr : List Node → Parsed Expr
+  pub rhs : List Node → Parsed Rhs
+  pub item : List Node → Parsed Keyed
+  pub literal : List Node → Parsed Lit
+  pub name : List Node → Parsed ℕ
+  pub source : List Node → Parsed Source
+  pub stmt : List Node → Parsed Stmt
+  pub block : List Node → Parsed Stmts
+  pub elif : List Node → Parsed Arm
 
--- kinds 2, 3, 5 to 9: e, r, s and a parse children
-module _ (e : List Node → Parsed Expr) (r : List Node → Parsed Rhs) (s : List Node → Parsed Stmt) (a : List Node → Parsed Arm) where
-  abbrev pub manyStmts : ℕ → List Node → Parsed Stmts
-  manyStmts n ns = many moreStmts noStmts s n ns
+-- 19, 20, 22, 23
+abbrev pub literalPlace : Kind → Rule Lit
+literalPlace =
+    orKind (kExpr kNum) (childless (λ x. Val (beValue x)))
+    (orKind (kExpr kText) (childless (λ x. Text (field x 0)))
+    (orKind (kExpr kTrue) (childless (λ x. Truth true))
+    (orKind (kExpr kFalse) (childless (λ x. Truth false)) noRule)))
 
-  abbrev pub stmtKind : StmtKind → ℕ → List ℕ → List Node → Parsed Stmt
-  stmtKind kBlock c b ns = manyStmts c ns >>= λ t ms. Takes (Block t) ms
+module _ (p : Parsers) where
+  -- 14 to 23
+  abbrev pub exprKind : ExprKind → Rule Expr
+  exprKind kArrayMut c b ns = guard (eqb c 2) (p .expr ns >>= λ i ms. p .expr ms >>= making (ArrayMut (field b 0) i))
+  exprKind kCall c b ns = many moreExprs noExprs (p .expr) c ns >>= making (FnCall (field b 0))
+  exprKind kAssign c b ns = guard (eqb c 1) (p .rhs ns >>= making (VarAssign (field b 0)))
+  exprKind kBinary c b ns = guard (eqb c 2) (p .expr ns >>= λ x ms. p .expr ms >>= making (BinaryExpr (binTok (field b 0)) x))
+  exprKind kUnary c b ns = guard (eqb c 1) (p .expr ns >>= making (UnaryExpr (unTok (field b 0))))
+  exprKind kNum c b ns = childless (λ x. Literal (Val (beValue x))) c b ns
+  exprKind kText c b ns = childless (λ x. Literal (Text (field x 0))) c b ns
+  exprKind kName c b ns = childless (λ x. Name (field x 0)) c b ns
+  exprKind kTrue c b ns = childless (λ x. Literal (Truth true)) c b ns
+  exprKind kFalse c b ns = childless (λ x. Literal (Truth false)) c b ns
+
+  -- 10, 12, 13
+  abbrev pub rightKind : RightKind → Rule Rhs
+  rightKind kTable c b ns = many moreKeyed noItems (p .item) c ns >>= making Table
+  rightKind kArray c b ns = many _∷_ [] (p .literal) c ns >>= making (Array (field b 0))
+  rightKind kArrayAccess c b ns = guard (eqb c 1) (p .expr ns >>= making (ArrayAccess (field b 0)))
+
+  abbrev pub exprSide : ExprKind → Rule Rhs
+  exprSide k c b ns = exprKind k c b ns >>= making Expression
+
+  -- 11
+  abbrev pub itemRule : Rule Keyed
+  itemRule c b ns = guard (eqb c 1) (p .expr ns >>= making (keyed (field b 0)))
+
+  -- 15 in a For
+  abbrev pub callRule : Rule Source
+  callRule c b ns = many moreExprs noExprs (p .expr) c ns >>= making (OverCall (field b 0))
+
+  -- 2 where a Block has to stand
+  abbrev pub blockRule : Rule Stmts
+  blockRule c b ns = many moreStmts noStmts (p .stmt) c ns
+
+  -- 2, 3, 5 to 9
+  abbrev pub stmtKind : StmtKind → Rule Stmt
+  stmtKind kBlock c b ns = blockRule c b ns >>= making Block
   stmtKind kIf c b ns =
       guard (leb (2 + field b 0) c)
-      (e ns >>= λ t ns₁. s ns₁ >>= asBlock >>= λ k ns₂. many _∷_ [] a (field b 0) ns₂ >>= λ j ns₃. manyStmts (c - (2 + field b 0)) ns₃ >>= λ o ns₄.
-      Takes (IfStmt t k (restOf j o)) ns₄)
-  stmtKind kFor c b ns = guard (eqb c 2) (e ns >>= asSource >>= λ t ms. s ms >>= asBlock >>= λ k ks. Takes (ForStmt (field b 0) (field b 1) t k) ks)
-  stmtKind kReturn c b ns = cond (eqb c 0) (Takes Return ns) (guard (eqb c 1) (e ns >>= λ t ms. Takes (ReturnExpr t) ms))
-  stmtKind kExprStmt c b ns = guard (eqb c 1) (e ns >>= λ t ms. Takes (ExprStmt t) ms)
-  stmtKind kVarDecl c b ns = cond (eqb c 0) (Takes (VarDecl (field b 0)) ns) (guard (eqb c 1) (r ns >>= λ t ms. Takes (VarInit (field b 0) t) ms))
-  stmtKind kFnDecl c b ns =
-      guard (leb 1 c) (many _∷_ [] (λ ms. e ms >>= asName) (c - 1) ns >>= λ ps ms. s ms >>= asBlock >>= λ k ks. Takes (FnDecl (field b 0) ps k) ks)
+      (p .expr ns >>= λ t ns₁. p .block ns₁ >>= λ k ns₂. many _∷_ [] (p .elif) (field b 0) ns₂ >>= λ j ns₃.
+      many moreStmts noStmts (p .stmt) (c - (2 + field b 0)) ns₃ >>= making (λ o. IfStmt t k (restOf j o)))
+  stmtKind kFor c b ns = guard (eqb c 2) (p .source ns >>= λ t ms. p .block ms >>= making (ForStmt (field b 0) (field b 1) t))
+  stmtKind kReturn c b ns = cond (eqb c 0) (Takes Return ns) (guard (eqb c 1) (p .expr ns >>= making ReturnExpr))
+  stmtKind kExprStmt c b ns = guard (eqb c 1) (p .expr ns >>= making ExprStmt)
+  stmtKind kVarDecl c b ns = cond (eqb c 0) (Takes (VarDecl (field b 0)) ns) (guard (eqb c 1) (p .rhs ns >>= making (VarInit (field b 0))))
+  stmtKind kFnDecl c b ns = guard (leb 1 c) (many _∷_ [] (p .name) (c - 1) ns >>= λ ps ms. p .block ms >>= making (FnDecl (field b 0) ps))
 
-  abbrev pub stmtNode : List Node → Parsed Stmt
-  stmtNode [] = Fails
-  stmtNode (node kProgram c b ∷ ns) = Fails
-  stmtNode (node kElif c b ∷ ns) = Fails
-  stmtNode (node kItem c b ∷ ns) = Fails
-  stmtNode (node (kStmt k) c b ∷ ns) = stmtKind k c b ns
-  stmtNode (node (kRight k) c b ∷ ns) = Fails
-  stmtNode (node (kExpr k) c b ∷ ns) = Fails
+  -- 4
+  abbrev pub elifRule : Rule Arm
+  elifRule c b ns = guard (eqb c 2) (p .expr ns >>= λ t ms. p .block ms >>= making (arm t))
 
-abbrev mutual
-  pub stmt : ℕ → List Node → Parsed Stmt
-  stmt zero ns = Fails
-  stmt (suc d) ns = stmtNode (λ ms. expr d ms) (λ ms. rhs d ms) (λ ms. stmt d ms) (λ ms. elif d ms) ns
+  -- the kinds of each place, one level up
+  abbrev pub above : Parsers
+  above = record {
+    expr = at (byClass noRule noRule exprKind);
+    rhs = at (byClass noRule rightKind exprSide);
+    item = at (orKind kItem itemRule noRule);
+    literal = at literalPlace;
+    name = at (orKind (kExpr kName) (childless (λ x. field x 0)) noRule);
+    source = at (orKind (kExpr kName) (childless (λ x. OverName (field x 0))) (orKind (kExpr kCall) callRule noRule));
+    stmt = at (byClass stmtKind noRule noRule);
+    block = at (orKind (kStmt kBlock) blockRule noRule);
+    elif = at (orKind kElif elifRule noRule);
+  }
 
-  pub elif : ℕ → List Node → Parsed Arm
-  elif zero ns = Fails
-  elif (suc d) ns = elifNode (λ ms. expr d ms) (λ ms. stmt d ms) ns
+-- d levels are left; a node's children have one less
+abbrev pub parsers : ℕ → Parsers
+parsers zero = record {
+  expr = λ ns. Fails;
+  rhs = λ ns. Fails;
+  item = λ ns. Fails;
+  literal = λ ns. Fails;
+  name = λ ns. Fails;
+  source = λ ns. Fails;
+  stmt = λ ns. Fails;
+  block = λ ns. Fails;
+  elif = λ ns. Fails;
+}
+parsers (suc d) = above (parsers d)
 
 -- ---- limits: more than 8 loops nested, over 24 array or 16 table items, a key twice in one table, a function inside a function
 
@@ -286,14 +270,9 @@ abbrev pub allUsed : Stmts → List Node → Parsed Stmts
 allUsed t [] = guard (stmtsOk t 8 false) (Takes t [])
 allUsed t (n ∷ ns) = Fails
 
-abbrev pub programNode : Kind → ℕ → List Node → Parsed Stmts
-programNode kProgram c ns = many moreStmts noStmts (stmt 31) c ns >>= allUsed
-programNode kElif c ns = Fails
-programNode kItem c ns = Fails
-programNode (kStmt k) c ns = Fails
-programNode (kRight k) c ns = Fails
-programNode (kExpr k) c ns = Fails
+abbrev pub programRule : Rule Stmts
+programRule c b ns = many moreStmts noStmts (parsers 31 .stmt) c ns >>= allUsed
 
 abbrev pub parse : List Node → Parsed Stmts
 parse [] = Fails
-parse (node k c b ∷ ns) = programNode k c ns
+parse (node k c b ∷ ns) = orKind kProgram programRule noRule k c b ns

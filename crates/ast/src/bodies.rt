@@ -4,8 +4,9 @@ ghost use mathlib.Core.List.{map};
 ghost use Prim.Native.Nat.{_≤_, _<_};
 ghost use lib.ListN.{length, take};
 ghost use Rattle.ast.specs.Node.{kindOf, body, bodySize};
-ghost use Rattle.ast.specs.File.{sum, firsts, fieldOk, all, nodeOk, nodesFrom};
-ghost use Rattle.ast.specs.Room.{Room};
+ghost use Rattle.ast.specs.File.{firsts, fieldOk, nodeOk, nodesFrom};
+ghost use Rattle.ast.specs.inner.Room.{Room};
+ghost use Rattle.lent.specs.Lists.{sum, all};
 
 // Bytes of a node's body, by kind.
 const SIZES: [u8; 24] = [

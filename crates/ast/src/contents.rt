@@ -3,7 +3,8 @@ ghost use mathlib.Core.Path.{_≡_};
 ghost use Prim.Native.Nat.{_≤_, _<_};
 ghost use lib.Dec.{leb};
 ghost use lib.ListN.{length};
-ghost use Rattle.ast.specs.File.{nodeCount, textCount, countsOk, all, between, firsts};
+ghost use Rattle.ast.specs.File.{nodeCount, textCount, countsOk, between, firsts};
+ghost use Rattle.lent.specs.Lists.{all};
 
 pub fn node_count(file: &[u8]) -> u64
     requires { ⌜ 3 ≤ length (now file) ⌝ }

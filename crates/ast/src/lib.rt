@@ -9,9 +9,10 @@ mod texts;
 ghost use mathlib.Core.Path.{_≡_};
 ghost use Prim.Native.Nat.{_*_, _≤_};
 ghost use lib.ListN.{length, drop};
-ghost use Rattle.ast.specs.File.{sum, readTree};
-ghost use Rattle.ast.specs.Room.{Room};
-ghost use Rattle.ast.specs.Answer.{answerOf, partsAnswer, bodiesAnswer};
+ghost use Rattle.ast.specs.File.{readTree};
+ghost use Rattle.ast.specs.inner.Room.{Room};
+ghost use Rattle.ast.specs.inner.Answer.{answerOf, partsAnswer, bodiesAnswer};
+ghost use Rattle.lent.specs.Lists.{sum};
 
 // The checks of the bodies: texts (3), fields (5), structure (4). total is the size of the texts.
 fn read_bodies(count: u64, lengths: &[u8], entries: &[u8], total: usize, bodies: &[u8]) -> u64

@@ -3,7 +3,7 @@ ghost use mathlib.Core.Path.{_≡_};
 ghost use Prim.Native.Nat.{_+_, _≤_, _<_};
 ghost use lib.ListN.{length};
 ghost use Rattle.ast.specs.File.{readTree};
-ghost use Rattle.ast.specs.Under as Rule;
+ghost use Rattle.ast.specs.inner.Under as Rule;
 
 // "no 6, 9 or 15"
 fn absent(kind: u64) -> bool

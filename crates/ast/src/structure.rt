@@ -9,8 +9,8 @@ ghost use lib.ListN.{getD};
 ghost use Rattle.ast.specs.Node.{Node, kindOf};
 ghost use Rattle.ast.specs.File.{nodesFrom};
 ghost use Rattle.ast.specs.Structure.{parse};
-ghost use Rattle.ast.specs.Answer.{parsed};
-ghost use Rattle.ast.specs.Pass.{Left, left, item, then, times, stands, planOf, plain, headed, branching, marked, mark, keyOf, keyedTimes, children, pass, Fit, Agrees, shifted, began, unless};
+ghost use Rattle.ast.specs.inner.Answer.{parsed};
+ghost use Rattle.ast.specs.inner.Pass.{Remaining, left, itemBits, then, times, stands, planOf, planOne, headed, branching, bitIn, bitOf, keyOf, keyedTimes, children, passOver, Fit, Agrees, shifted, began, unless};
 
 // The entries' and the bodies' bytes that a subtree takes, or Bad: refused with 4.
 pub enum Checked {
@@ -68,7 +68,7 @@ fn minus(a: u64, b: u64) -> u64
 
 // Children of one kind of place alone.
 fn only_first(fits: bool, place: u64, first: u64, loops: u64, inside: bool) -> Plan
-    ensures { λ r. ⌜ r ≡ plain fits place first loops inside ⌝ }
+    ensures { λ r. ⌜ r ≡ planOne fits place first loops inside ⌝ }
 {
     Plan {
         fits,
@@ -220,14 +220,14 @@ fn bit(k: u64) -> u64
 
 fn with_key(keys: u64, k: u64) -> u64
     requires { ⌜ k < 64 ⌝ }
-    ensures { λ r. ⌜ r ≡ mark keys k ⌝ }
+    ensures { λ r. ⌜ r ≡ bitOf keys k ⌝ }
 {
     keys | bit(k)
 }
 
 fn unless_key(keys: u64, k: u64, r: Checked) -> Checked
     requires { ⌜ k < 64 ⌝ }
-    ensures { λ q. ⌜ q ≡ unless (marked keys k) r ⌝ }
+    ensures { λ q. ⌜ q ≡ unless (bitIn keys k) r ⌝ }
 {
     if (keys >> k) % 2 == 1 {
         return Checked::Bad;
@@ -237,7 +237,7 @@ fn unless_key(keys: u64, k: u64, r: Checked) -> Checked
 
 // The key of the Item at p, if one is there.
 fn key_at(contents: &[u8], bodies: &[u8], p: Checked) -> u64
-    requires { ⌜ ((x : Left) × Agrees (now contents) (now bodies) x p) ⌝ }
+    requires { ⌜ ((x : Remaining) × Agrees (now contents) (now bodies) x p) ⌝ }
     ensures { λ r. ⌜ (r < 64) × ((ns : List Node) → Agrees (now (contents .entry)) (now (bodies .entry)) (left ns) p → r ≡ keyOf ns) ⌝ }
 {
     let Checked::Taken(u, v) = p else {
@@ -263,8 +263,8 @@ fn at(
     inside: bool,
     p: Checked,
 ) -> Checked
-    requires { ⌜ ((x : Left) × Agrees (now contents) (now bodies) x p) ⌝ }
-    ensures { λ r. ⌜ ((x : Left) → Agrees (now (contents .entry)) (now (bodies .entry)) x p → Agrees (now (contents .entry)) (now (bodies .entry)) (then x (λ ns. pass depth place loops inside ns)) r) ⌝ }
+    requires { ⌜ ((x : Remaining) × Agrees (now contents) (now bodies) x p) ⌝ }
+    ensures { λ r. ⌜ ((x : Remaining) → Agrees (now (contents .entry)) (now (bodies .entry)) x p → Agrees (now (contents .entry)) (now (bodies .entry)) (then x (λ ns. passOver depth place loops inside ns)) r) ⌝ }
 {
     let Checked::Taken(u, v) = p else {
         return p;
@@ -287,8 +287,8 @@ fn run(
     inside: bool,
     p: Checked,
 ) -> Checked
-    requires { ⌜ ((x : Left) × Agrees (now contents) (now bodies) x p) ⌝ }
-    ensures { λ r. ⌜ ((x : Left) → Agrees (now (contents .entry)) (now (bodies .entry)) x p → Agrees (now (contents .entry)) (now (bodies .entry)) (then x (λ ns. times (λ ms. pass depth place loops inside ms) n ns)) r) ⌝ }
+    requires { ⌜ ((x : Remaining) × Agrees (now contents) (now bodies) x p) ⌝ }
+    ensures { λ r. ⌜ ((x : Remaining) → Agrees (now (contents .entry)) (now (bodies .entry)) x p → Agrees (now (contents .entry)) (now (bodies .entry)) (then x (λ ns. times (λ ms. passOver depth place loops inside ms) n ns)) r) ⌝ }
 {
     let mut q = p;
     let mut more = n;
@@ -301,8 +301,8 @@ fn run(
 
 // n Items from p on, no key twice.
 fn items(n: u64, contents: &[u8], bodies: &[u8], depth: u64, p: Checked) -> Checked
-    requires { ⌜ ((x : Left) × Agrees (now contents) (now bodies) x p) ⌝ }
-    ensures { λ r. ⌜ ((x : Left) → Agrees (now (contents .entry)) (now (bodies .entry)) x p → Agrees (now (contents .entry)) (now (bodies .entry)) (then x (λ ns. keyedTimes (λ ms. pass depth item 0 false ms) 0 n ns)) r) ⌝ }
+    requires { ⌜ ((x : Remaining) × Agrees (now contents) (now bodies) x p) ⌝ }
+    ensures { λ r. ⌜ ((x : Remaining) → Agrees (now (contents .entry)) (now (bodies .entry)) x p → Agrees (now (contents .entry)) (now (bodies .entry)) (then x (λ ns. keyedTimes (λ ms. passOver depth itemBits 0 false ms) 0 n ns)) r) ⌝ }
 {
     let mut q = p;
     let mut keys: u64 = 0;
@@ -319,8 +319,8 @@ fn items(n: u64, contents: &[u8], bodies: &[u8], depth: u64, p: Checked) -> Chec
 
 // A node's children, one part of the plan after the other.
 fn kids(plan: Plan, contents: &[u8], bodies: &[u8], depth: u64, p: Checked) -> Checked
-    requires { ⌜ ((x : Left) × Agrees (now contents) (now bodies) x p) ⌝ }
-    ensures { λ r. ⌜ ((x : Left) → Agrees (now (contents .entry)) (now (bodies .entry)) x p → Agrees (now (contents .entry)) (now (bodies .entry)) (children (λ q m g ms. pass depth q m g ms) plan x) r) ⌝ }
+    requires { ⌜ ((x : Remaining) × Agrees (now contents) (now bodies) x p) ⌝ }
+    ensures { λ r. ⌜ ((x : Remaining) → Agrees (now (contents .entry)) (now (bodies .entry)) x p → Agrees (now (contents .entry)) (now (bodies .entry)) (children (λ q m g ms. passOver depth q m g ms) plan x) r) ⌝ }
 {
     let loops = plan.loops;
     let inside = plan.inside;
@@ -369,7 +369,7 @@ fn kids(plan: Plan, contents: &[u8], bodies: &[u8], depth: u64, p: Checked) -> C
 // The node at the front, and its subtree.
 fn node(place: u64, contents: &[u8], bodies: &[u8], depth: u64, loops: u64, inside: bool) -> Checked
     requires { ⌜ Fit (now contents) (now bodies) ⌝ }
-    ensures { λ r. ⌜ Agrees (now (contents .entry)) (now (bodies .entry)) (pass depth place loops inside (nodesFrom (now (contents .entry)) (now (bodies .entry)))) r ⌝ }
+    ensures { λ r. ⌜ Agrees (now (contents .entry)) (now (bodies .entry)) (passOver depth place loops inside (nodesFrom (now (contents .entry)) (now (bodies .entry)))) r ⌝ }
 {
     if depth == 0 {
         return Checked::Bad;

@@ -4,7 +4,8 @@ ghost use mathlib.Core.Bool.{not, _&&_};
 ghost use Prim.Native.Nat.{_≤_};
 ghost use lib.ListN.{length};
 ghost use Rattle.lent.specs.Bytes.{sameBytes};
-ghost use Rattle.ast.specs.File.{sum, all, between, cut, fortmp, before, ascending, ordered};
+ghost use Rattle.ast.specs.File.{between, cut, fortmp, precedes, ascending, ordered};
+ghost use Rattle.lent.specs.Lists.{sum, all};
 
 pub fn printable(texts: &[u8]) -> bool
     ensures { λ r. ⌜ r ≡ all (between 32 126) (now (texts .entry)) ⌝ }
@@ -34,7 +35,7 @@ pub fn is_fortmp(text: &[u8]) -> bool
 
 // Whether a stands before b by bytes.
 pub fn precedes(a: &[u8], b: &[u8]) -> bool
-    ensures { λ r. ⌜ r ≡ before (now (a .entry)) (now (b .entry)) ⌝ }
+    ensures { λ r. ⌜ r ≡ precedes (now (a .entry)) (now (b .entry)) ⌝ }
 {
     let mut i = 0;
     while i < a.len() {

@@ -6,9 +6,9 @@ ghost use Prim.Native.Nat.{_%_, _≤_, _<_, max};
 ghost use lib.Dec.{eqb};
 ghost use lib.ListN.{length, drop};
 ghost use Rattle.ast.specs.File.{readTree};
-ghost use Rattle.bound.specs.Weights as Rule;
-ghost use Rattle.bound.specs.Weights.{Counts, limit};
-ghost use Rattle.bound.specs.BoundOf.{boundOf};
+ghost use Rattle.bound.specs.inner.Weights as Rule;
+ghost use Rattle.bound.specs.inner.Weights.{Counts, limit};
+ghost use Rattle.bound.specs.inner.BoundOf.{boundOf};
 
 // What the instructions of subtrees come to, modulo LIMIT, and the place behind their entries.
 pub struct Part {
@@ -30,7 +30,7 @@ fn larger(a: u64, b: u64) -> u64
 
 // The items of an Array.
 fn items(kind: u64, count: u64) -> u64
-    ensures { λ r. ⌜ r ≡ Rule.items kind count ⌝ }
+    ensures { λ r. ⌜ r ≡ Rule.itemsOfEntry kind count ⌝ }
 {
     if kind == 12 {
         return count;
@@ -41,7 +41,7 @@ fn items(kind: u64, count: u64) -> u64
 // The longest array literal.
 fn longest(entries: &[u8]) -> u64
     requires { ⌜ length (now entries) ≤ 2048 ⌝ }
-    ensures { λ r. ⌜ (r ≡ Rule.longest (now (entries .entry))) × (r < 256) ⌝ }
+    ensures { λ r. ⌜ (r ≡ Rule.longestEntry (now (entries .entry))) × (r < 256) ⌝ }
 {
     let mut most: u64 = 0;
     let mut i = 0;
@@ -66,7 +66,7 @@ fn leaf(under: u64) -> u64
 
 // A Binary or Unary: VarDecl and Assign store it by one more.
 fn computed(under: u64) -> u64
-    ensures { λ r. ⌜ r ≡ cond (Rule.stores under) 2 1 ⌝ }
+    ensures { λ r. ⌜ r ≡ cond (Rule.storesOne under) 2 1 ⌝ }
 {
     if (under == 8) | (under == 16) {
         return 2;
@@ -115,7 +115,7 @@ fn weight(under: u64, kind: u64, count: u64) -> u64
 // A node with its children's sum; a For has two instructions outside the loop, seven inside.
 fn whole(l: u64, under: u64, kind: u64, count: u64, sum: u64) -> u64
     requires { ⌜ (l < 256) × (sum < limit) ⌝ }
-    ensures { λ r. ⌜ r ≡ Rule.whole l under kind count sum % limit ⌝ }
+    ensures { λ r. ⌜ r ≡ Rule.wholeWeight l under kind count sum % limit ⌝ }
 {
     if kind == 5 {
         return (2 + l * (7 + sum)) % LIMIT;
@@ -146,7 +146,7 @@ fn subtree(depth: u64, l: u64, under: u64, entries: &[u8], at: usize) -> Part
 // So many subtrees from `at` on, under a kind.
 fn children(depth: u64, l: u64, under: u64, count: u64, entries: &[u8], at: usize) -> Part
     requires { ⌜ (l < 256) × (length (now entries) ≤ 2048) × (at ≤ length (now entries)) ⌝ }
-    ensures { λ r. ⌜ Counts (now (entries .entry)) (Rule.times (λ es. Rule.subtree depth l under es) count (drop at (now (entries .entry)))) r ⌝ }
+    ensures { λ r. ⌜ Counts (now (entries .entry)) (Rule.forestTimes (λ es. Rule.subtree depth l under es) count (drop at (now (entries .entry)))) r ⌝ }
 {
     let mut next = at;
     let mut cost: u64 = 0;

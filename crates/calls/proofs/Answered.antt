@@ -1,40 +1,42 @@
 -- What the calls answer, test by test. Assumes nothing.
 use mathlib.Core.Path.{_≡_, refl, sym, ap, ap₂, _∙_, subst}
 use mathlib.Core.Bool.{Bool, true, false, cond, _&&_}
-use mathlib.Core.List.{List, [], _∷_, _++_, append-nil}
+use mathlib.Core.List.{List, [], _++_, append-nil}
 use mathlib.Core.Option.{Option, none, some}
 use Prim.Native.Nat.{ℕ, _+_, _*_, _-_, _^_, _≤_, _<_}
 use native.Mathlib.Omega.{arith}
 use lib.Dec.{ltb}
-use lib.ListN.{length, take, drop, length-append, length-drop}
+use lib.ListN.{length, drop, length-append, length-drop}
 use lib.Seq.{drop-length}
 use borrow.Author.Tests.{lt-ltb, le-ltb}
 use Rattle.lent.specs.Bytes.{beValue, part, splice, AreBytes}
-use Rattle.lent.specs.Parts.{part-part, length-part}
-use Rattle.lent.specs.Slots.{slot-end}
+use Rattle.lent.specs.laws.Parts.{part-part, length-part}
+use Rattle.lent.specs.laws.Slots.{slot-end}
 use Rattle.sifv.specs.Slot.{encodeSlot}
 use Rattle.tables.specs.Tables.{Program}
 use Rattle.tables.specs.ProgramBytes.{decodeProgram}
-use Rattle.vm.specs.Machine.{Machine, State, Ran, Answer, started, run}
-use Rattle.vm.specs.Kept.{accepted-storable, storable-sound}
+use Rattle.vm.specs.Machine.{Machine, State, started, run}
+use Rattle.vm.specs.laws.Kept.{accepted-storable, storable-sound}
 use Rattle.vm.specs.StateBytes.{encodeState, decodeState, stateOk}
-use Rattle.execute.specs.View.{view, locOf, Cells, Laid, Holds, Canon}
-use Rattle.execute.specs.Laying.{laid-view, laid-canon, length-stack, length-frames}
-use Rattle.execute.specs.Programs.{programOf, Ready, ready}
-use Rattle.tables.specs.ProgramLaws.{limits}
-use Rattle.tables.specs.ProgramRange.{program-within}
-use Rattle.state.specs.Whole.{accepted-holds, accepted-loc}
-use Rattle.state.specs.Fields.{locAt, progressAt}
-use Rattle.run.specs.Runs.{at, Answers, Came, Ended}
+use Rattle.execute.specs.inner.View.{view, locOf, Cells, Holds, Canon}
+use Rattle.execute.specs.laws.Laying.{laid-view, laid-canon, length-stack, length-frames}
+use Rattle.execute.specs.laws.Programs.{ready}
+use Rattle.tables.specs.laws.ProgramLaws.{limits}
+use Rattle.tables.specs.laws.ProgramRange.{program-within}
+use Rattle.state.specs.laws.Whole.{accepted-holds, accepted-loc}
+use Rattle.state.specs.inner.Fields.{locAt, progressAt}
+use Rattle.run.specs.inner.Runs.{stateOf, RunEnded}
 use Rattle.run.specs.declared.Progress.{Progress}
 use Rattle.run.specs.declared.Ran.{Ran as GivenRan}
 use Rattle.lower.specs.LowerCall.{over, answered}
 use Rattle.report.specs.Report.{report}
-use Rattle.report.specs.Fields.{told}
-use Rattle.report.specs.Told.{told-report}
-use Rattle.calls.specs.Calls.{startOn, startCall, RunAnswered, ranOut, runRefused, runOn, runCall, readCall}
-use Rattle.program.specs.Held.{isSome, missing}
-use Rattle.calls.specs.Finished.{Finished}
+use Rattle.report.specs.inner.Fields.{reportOf}
+use Rattle.report.specs.laws.Told.{told-report}
+use Rattle.calls.specs.Calls.{startOn, startCall, ranOut, runRefused, runOn, runCall, readCall}
+use Rattle.program.specs.laws.HeldLaws.{missing}
+use Rattle.calls.specs.inner.Finished.{Finished}
+use Rattle.execute.specs.inner.ProgramView.{programIn, ProgramReady}
+use Rattle.program.specs.inner.Held.{isSome}
 
 -- ---- buffers and programs
 
@@ -45,18 +47,18 @@ over-is new b b' n e h l =
     let z : n ≡ length new = omega arith in
     e ∙ ap (λ (x : ℕ). new ++ drop x b) z
 
-pub programmed : (q : List ℕ) → isSome (decodeProgram q) ≡ true → decodeProgram q ≡ some (programOf q)
+pub programmed : (q : List ℕ) → isSome (decodeProgram q) ≡ true → decodeProgram q ≡ some (programIn q)
 programmed q h = by (decodeProgram q) refl h
   where
-    by : (o : Option Program) → decodeProgram q ≡ o → isSome o ≡ true → o ≡ some (programOf q)
+    by : (o : Option Program) → decodeProgram q ≡ o → isSome o ≡ true → o ≡ some (programIn q)
     by none e k = let z : _≡_ {A = ℕ} 0 1 = cc in absurd (omega arith)
     by (some p) e k = rw e
 
-pub program-ready : (q : List ℕ) → AreBytes q → 40960 ≤ length q → isSome (decodeProgram q) ≡ true → Ready q (programOf q)
-program-ready q a l h = ready q (programOf q) a l (programmed q h)
+pub program-ready : (q : List ℕ) → AreBytes q → 40960 ≤ length q → isSome (decodeProgram q) ≡ true → ProgramReady q (programIn q)
+program-ready q a l h = ready q (programIn q) a l (programmed q h)
 
-pub start-small : (q : List ℕ) → AreBytes q → isSome (decodeProgram q) ≡ true → programOf q .codeStart ≤ 1024
-start-small q a h = let k = limits (programOf q) (program-within q (programOf q) a (programmed q h) .0) in omega (arith, k .start, k .count)
+pub start-small : (q : List ℕ) → AreBytes q → isSome (decodeProgram q) ≡ true → programIn q .codeStart ≤ 1024
+start-small q a h = let k = limits (programIn q) (program-within q (programIn q) a (programmed q h) .0) in omega (arith, k .start, k .count)
 
 unprogrammed : (q : List ℕ) → isSome (decodeProgram q) ≡ false → decodeProgram q ≡ none
 unprogrammed q h = missing (decodeProgram q) h
@@ -81,10 +83,10 @@ module _ (q b : List ℕ) where
       pub start-refused : isSome (decodeProgram q) ≡ false → startCall q b ≡ answered 8 b
       start-refused h = start-on ∙ ap (λ (o : Option Program). startOn o b) (unprogrammed q h)
 
-      pub start-written : {b' : List ℕ} → isSome (decodeProgram q) ≡ true → b' ≡ encodeState (started (programOf q)) ++ drop 47360 b → length b' ≡ length b → startCall q b ≡ answered 0 b'
+      pub start-written : {b' : List ℕ} → isSome (decodeProgram q) ≡ true → b' ≡ encodeState (started (programIn q)) ++ drop 47360 b → length b' ≡ length b → startCall q b ≡ answered 0 b'
       start-written {b'} h e l =
           start-on ∙ ap (λ (o : Option Program). startOn o b) (programmed q h)
-          ∙ ap (λ (x : List ℕ). answered 0 x) (sym (over-is (encodeState (started (programOf q))) b b' 47360 e (omega arith) l))
+          ∙ ap (λ (x : List ℕ). answered 0 x) (sym (over-is (encodeState (started (programIn q))) b b' 47360 e (omega arith) l))
 
 -- ---- read_name
 
@@ -145,12 +147,12 @@ module _ (q b : List ℕ) (steps : ℕ) (out : List ℕ) where
         run-unprogrammed h = run-passed ∙ ap (λ (o : Option Program). runOn o b steps out) (unprogrammed q h)
 
 -- the state check and the count
-module _ (q b : List ℕ) (steps : ℕ) (out : List ℕ) (h : isSome (decodeProgram q) ≡ true) {n : ℕ} (en : n ≡ length (programOf q .code)) where
+module _ (q b : List ℕ) (steps : ℕ) (out : List ℕ) (h : isSome (decodeProgram q) ≡ true) {n : ℕ} (en : n ≡ length (programIn q .code)) where
   tested : {t : Bool} → (stateOk n b && ltb (decodeState b .count + steps) (2 ^ 64)) ≡ t
-      → runOn (decodeProgram q) b steps out ≡ cond t (ranOut (programOf q) (run (programOf q) steps (decodeState b)) (decodeState b .count) b out) (runRefused 10 b out)
+      → runOn (decodeProgram q) b steps out ≡ cond t (ranOut (programIn q) (run (programIn q) steps (decodeState b)) (decodeState b .count) b out) (runRefused 10 b out)
   tested {t} e =
       ap (λ (o : Option Program). runOn o b steps out) (programmed q h)
-      ∙ ap (λ (x : Bool). cond x (ranOut (programOf q) (run (programOf q) steps (decodeState b)) (decodeState b .count) b out) (runRefused 10 b out))
+      ∙ ap (λ (x : Bool). cond x (ranOut (programIn q) (run (programIn q) steps (decodeState b)) (decodeState b .count) b out) (runRefused 10 b out))
       (ap (λ (k : ℕ). stateOk k b && ltb (decodeState b .count + steps) (2 ^ 64)) (sym en) ∙ e)
 
   pub run-refused : {t : Bool} → t ≡ stateOk n b → t ≡ false → runOn (decodeProgram q) b steps out ≡ runRefused 10 b out
@@ -160,13 +162,13 @@ module _ (q b : List ℕ) (steps : ℕ) (out : List ℕ) (h : isSome (decodeProg
   run-overflows e f k = tested (ap (λ (x : Bool). x && ltb (decodeState b .count + steps) (2 ^ 64)) (sym e ∙ f) ∙ le-ltb (decodeState b .count + steps) (2 ^ 64) k)
 
   pub run-accepted : {t : Bool} → t ≡ stateOk n b → t ≡ true → decodeState b .count + steps < 2 ^ 64
-      → runOn (decodeProgram q) b steps out ≡ ranOut (programOf q) (run (programOf q) steps (decodeState b)) (decodeState b .count) b out
+      → runOn (decodeProgram q) b steps out ≡ ranOut (programIn q) (run (programIn q) steps (decodeState b)) (decodeState b .count) b out
   run-accepted e f k = tested (ap (λ (x : Bool). x && ltb (decodeState b .count + steps) (2 ^ 64)) (sym e ∙ f) ∙ lt-ltb (decodeState b .count + steps) (2 ^ 64) k)
 
 -- the used bytes of an accepted state hold its machine
 module _ (n : ℕ) (b : List ℕ) (o : n ≤ 1024) (a : AreBytes b) (l : 47360 ≤ length b) (e : stateOk n b ≡ true) where
-  cells-used : (at w k : ℕ) (f : ℕ → List ℕ) → at + k * w ≤ 47360 → Cells b at w k f → Cells (part b 0 47360) at w k f
-  cells-used at w k f h c i j = let z = slot-end w k i j in let y : 0 + (at + i * w) ≡ at + i * w = omega arith in part-part b 0 47360 (at + i * w) w (omega arith) ∙ ap (λ (x : ℕ). part b x w) y ∙ c i j
+  cells-used : (stateOf w k : ℕ) (f : ℕ → List ℕ) → stateOf + k * w ≤ 47360 → Cells b stateOf w k f → Cells (part b 0 47360) stateOf w k f
+  cells-used stateOf w k f h c i j = let z = slot-end w k i j in let y : 0 + (stateOf + i * w) ≡ stateOf + i * w = omega arith in part-part b 0 47360 (stateOf + i * w) w (omega arith) ∙ ap (λ (x : ℕ). part b x w) y ∙ c i j
 
   used-holds : Holds (part b 0 47360) (decodeState b .machine)
   used-holds =
@@ -190,10 +192,10 @@ module _ (n : ℕ) (b : List ℕ) (o : n ≤ 1024) (a : AreBytes b) (l : 47360 �
       subst (Canon n (part b 0 47360)) (used-loc ∙ ap (λ (x : Progress). x .loc) (sym ef))
       (laid-canon n (decodeState b .machine) (part b 0 47360) (storable-sound n (decodeState b) (accepted-storable n b o a l e)) o used-holds)
 
-  pub used-state : {first : Progress} → first ≡ progressAt b → at (part b 0 47360) first ≡ decodeState b
+  pub used-state : {first : Progress} → first ≡ progressAt b → stateOf (part b 0 47360) first ≡ decodeState b
   unfolding decodeState
   used-state {first} ef =
-      ap (at (part b 0 47360)) ef
+      ap (stateOf (part b 0 47360)) ef
       ∙ ap (λ (m : Machine). record { machine = m; count = beValue (part b 47336 8) })
       (ap (view (part b 0 47360)) (sym used-loc) ∙ laid-view n (decodeState b .machine) (part b 0 47360) (storable-sound n (decodeState b) (accepted-storable n b o a l e)) o used-holds)
 
@@ -205,20 +207,20 @@ counted-so b ef = ap (λ (x : Progress). x .count) (sym ef)
 -- ---- what a run leaves
 
 -- it can be written back
-pub to-write : {n : ℕ} {p : Program} {steps : ℕ} {b b' : List ℕ} {first : Progress} {r : GivenRan} → Ended n p steps b first b' r
+pub to-write : {n : ℕ} {p : Program} {steps : ℕ} {b b' : List ℕ} {first : Progress} {r : GivenRan} → RunEnded n p steps b first b' r
     → Holds b' (view b' (r .progress .loc)) × (r .progress .loc .depth ≤ 24) × (r .progress .loc .calls ≤ 24)
 to-write {b' = b'} {r = r} e =
     let k = e .canon in
     (k .holds, omega (arith, k .sound .stack-max, length-stack b' (r .progress .loc .depth)), omega (arith, k .sound .calls-max, length-frames b' (r .progress .loc .calls)))
 
-pub finished : {n : ℕ} (p : Program) (steps : ℕ) (b : List ℕ) (first : Progress) {b₁ b' : List ℕ} {r : GivenRan} → Ended n p steps b first b₁ r → length b₁ ≡ 47360
-    → b' ≡ encodeState (at b₁ (r .progress)) ++ drop 47360 b₁ → Finished (run p steps (at b first)) first b' r
+pub finished : {n : ℕ} (p : Program) (steps : ℕ) (b : List ℕ) (first : Progress) {b₁ b' : List ℕ} {r : GivenRan} → RunEnded n p steps b first b₁ r → length b₁ ≡ 47360
+    → b' ≡ encodeState (stateOf b₁ (r .progress)) ++ drop 47360 b₁ → Finished (run p steps (stateOf b first)) first b' r
 finished p steps b first {b₁} {b'} {r} e l w =
     let s = e .came .state in
     let d : drop 47360 b₁ ≡ [] = ap (λ (j : ℕ). drop j b₁) (sym l) ∙ drop-length b₁ in
     record {
       answers = e .came .answers;
-      bytes = w ∙ ap₂ (λ (u v : List ℕ). u ++ v) (ap encodeState (sym s)) d ∙ append-nil (encodeState (run p steps (at b first) .state));
+      bytes = w ∙ ap₂ (λ (u v : List ℕ). u ++ v) (ap encodeState (sym s)) d ∙ append-nil (encodeState (run p steps (stateOf b first) .state));
       position = ap (λ (x : State). x .machine .pos) s;
       counted = ap (λ (x : State). x .count) s;
       begun = e .begun;
@@ -226,16 +228,16 @@ finished p steps b first {b₁} {b'} {r} e l w =
     }
 
 -- the state and the report behind an accepted run
-pub run-written : (q b : List ℕ) (steps : ℕ) (out : List ℕ) → isSome (decodeProgram q) ≡ true → {n : ℕ} → n ≡ length (programOf q .code) → n ≤ 1024 → AreBytes b → 65536 ≤ length b → {t : Bool} → t ≡ stateOk n b → t ≡ true
+pub run-written : (q b : List ℕ) (steps : ℕ) (out : List ℕ) → isSome (decodeProgram q) ≡ true → {n : ℕ} → n ≡ length (programIn q .code) → n ≤ 1024 → AreBytes b → 65536 ≤ length b → {t : Bool} → t ≡ stateOk n b → t ≡ true
     → {first : Progress} → first ≡ progressAt b → steps ≤ 18446744073709551615 - first .count
-    → {b₁ b' out' : List ℕ} {r : GivenRan} → Finished (run (programOf q) steps (at (part b 0 47360) first)) first b₁ r → length b₁ ≡ 47360 → b' ≡ splice b 0 b₁
-    → {start : ℕ} → programOf q .codeStart ≡ start
-    → out' ≡ told start (r .answer) (r .progress .loc .pos) (r .progress .count - first .count) ++ drop 48 out → length out' ≡ length out → 48 ≤ length out
+    → {b₁ b' out' : List ℕ} {r : GivenRan} → Finished (run (programIn q) steps (stateOf (part b 0 47360) first)) first b₁ r → length b₁ ≡ 47360 → b' ≡ splice b 0 b₁
+    → {start : ℕ} → programIn q .codeStart ≡ start
+    → out' ≡ reportOf start (r .answer) (r .progress .loc .pos) (r .progress .count - first .count) ++ drop 48 out → length out' ≡ length out → 48 ≤ length out
     → runOn (decodeProgram q) b steps out ≡ record { result = 0; state = b'; report = out' }
 run-written q b steps out h {n} en o a lb {t} et ft {first} ef hc {b₁} {b'} {out'} {r} f l₁ eb {start} es rep lo ho =
     let ok : stateOk n b ≡ true = sym et ∙ ft in
     let fits = accepted-storable n b o a (omega arith) ok .counted in
-    let p = programOf q in
+    let p = programIn q in
     let x = run p steps (decodeState b) in
     let g : Finished x first b₁ r = subst (λ (s : State). Finished (run p steps s) first b₁ r) (used-state n b o a (omega arith) ok ef) f in
     let s' : b' ≡ over (encodeState (x .state)) b = eb ∙ ap (λ (y : List ℕ). over y b) (g .bytes) in

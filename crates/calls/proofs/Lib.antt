@@ -1,2 +1,3 @@
 mod Answered
 mod Again
+mod Rows

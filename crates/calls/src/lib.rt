@@ -5,13 +5,13 @@ ghost use Prim.Native.Nat.{_+_, _≤_, _<_, _^_};
 ghost use lib.ListN.{length};
 ghost use Rattle.tables.specs.ProgramBytes.{decodeProgram};
 ghost use Rattle.vm.specs.Machine as Machine;
-ghost use Rattle.execute.specs.View.{Canon};
-ghost use Rattle.execute.specs.Programs.{programOf, Ready};
-ghost use Rattle.run.specs.Runs.{at};
+ghost use Rattle.execute.specs.inner.View.{Canon};
+ghost use Rattle.run.specs.inner.Runs.{stateOf};
 ghost use Rattle.lower.specs.LowerCall.{answered};
 ghost use Rattle.calls.specs.Calls.{startCall, runOn, runCall, readCall};
-ghost use Rattle.program.specs.Held.{isSome};
-ghost use Rattle.calls.specs.Finished.{Finished};
+ghost use Rattle.calls.specs.inner.Finished.{Finished};
+ghost use Rattle.execute.specs.inner.ProgramView.{programIn, ProgramReady};
+ghost use Rattle.program.specs.inner.Held.{isSome};
 use run::Progress;
 use run::Ran;
 
@@ -34,8 +34,8 @@ pub fn start(program: &[u8], state: &mut [u8]) -> u64
 
 // At most so many steps on the used bytes of a state, which are then the state behind them.
 fn run_used(program: &[u8], state: &mut [u8], n: usize, steps: u64, first: Progress) -> Ran
-    requires { ⌜ Ready (now program) (programOf (now program)) × Canon n (now state) (first .loc) × (n ≡ length (programOf (now program) .code)) × (first .count + steps < 2 ^ 64) × (length (now state) ≡ 47360) ⌝ }
-    ensures { λ r. ⌜ Finished (Machine.run (programOf (now (program .entry))) steps (at (now (state .entry)) first)) first (now (state .exit)) r ⌝ }
+    requires { ⌜ ProgramReady (now program) (programIn (now program)) × Canon n (now state) (first .loc) × (n ≡ length (programIn (now program) .code)) × (first .count + steps < 2 ^ 64) × (length (now state) ≡ 47360) ⌝ }
+    ensures { λ r. ⌜ Finished (Machine.run (programIn (now (program .entry))) steps (stateOf (now (state .entry)) first)) first (now (state .exit)) r ⌝ }
 {
     let mut p = first;
     let answer = run::run(program, state, n, steps, &mut p);

@@ -1,5 +1,4 @@
-pub mod Token
+pub mod Literals
 pub mod Lower
 pub mod Within
-pub mod Accepted
-pub mod ReadWithin
+pub mod laws

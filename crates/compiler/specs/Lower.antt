@@ -2,11 +2,10 @@
 -- instructions, and may ask for the register before register 0. The next register r and the current label n are handed down; a tree takes
 -- `…Regs` registers and opens `…Labels` labels, wherever it stands. Definitions only.
 use Prim.Native.Nat.{ℕ, zero, suc, _+_, _-_}
-use mathlib.Core.Bool.{Bool, true, false, cond}
+use mathlib.Core.Bool.{cond}
 use mathlib.Core.List.{List, [], _∷_, _++_, map}
 use lib.Dec.{leb, eqb}
 use lib.ListN.{length, replicate}
-use Rattle.numeric.specs.Whole.{whole}
 use Rattle.sifv.specs.Value.{Num, Bl, Null, One, Arr, Tab}
 use Rattle.opc.specs.Op.{Lt, Jmpt, Jmpf}
 use Rattle.opc.specs.Op.{Op, Binary, Unary, Ldc, Ldn, Ldas, Ldav, Upda, Stc, Stn, Str, JmpCnd, Jmpa, Incrr, Fn, Call, FnRet, FnStackPush, FnStackPop, Tbli, Nop, Instr, instr, Code}
@@ -14,8 +13,10 @@ use Rattle.tables.specs.Tables.{Program}
 use Rattle.ast.specs.Tree.{Lit, Val, Text, Truth, Expr, Literal, Name, BinaryExpr, UnaryExpr, VarAssign, ArrayMut, FnCall, Rhs, Expression, Table, Array, ArrayAccess}
 use Rattle.ast.specs.Tree.{Exprs, noExprs, moreExprs, Items, noItems, moreItems, Source, OverName, OverCall}
 use Rattle.ast.specs.Flat.{exprCount}
-use Rattle.compiler.specs.Token.{literal, assigned, binKind, unKind}
+use Rattle.compiler.specs.Literals.{literal, assigned, binKind, unKind}
 use Rattle.ast.specs.Tree.{Stmt, Block, IfStmt, ForStmt, Return, ReturnExpr, ExprStmt, VarDecl, VarInit, FnDecl, Stmts, noStmts, moreStmts, Rest, Else, Elif}
+use Rattle.numeric.specs.Whole.{whole}
+use Rattle.lent.specs.Refusals.{noRegister, tooLarge}
 
 -- ---- what the lowering does
 
@@ -34,8 +35,8 @@ pub data Event : Type 0 where
   Below : Event
 
 -- `self.ri - 1`, where the next register is r, and `prevreg`
-abbrev pub before : ℕ → List Event
-before r = cond (eqb r 0) (Below ∷ []) []
+abbrev pub askBelow : ℕ → List Event
+askBelow r = cond (eqb r 0) (Below ∷ []) []
 
 abbrev pub prev : ℕ → ℕ
 prev r = r - 1
@@ -184,8 +185,8 @@ lowerAssign w n x (ArrayMut y i v) es q = es ++ (push w n (Str (prev q) x) ∷ [
 lowerAssign w n x (FnCall f ps) es q = es ++ (push w n (Str (prev q) x) ∷ [])
 
 -- `fncallexpr`: ps are the parameters' events, k their number; q is the next register after them
-abbrev pub lowerCall : Place → ℕ → ℕ → List Event → ℕ → ℕ → List Event
-lowerCall w n f ps k q = ps ++ (push w n (Call f k) ∷ load w n (FnStackPop q))
+abbrev pub lowerFnCall : Place → ℕ → ℕ → List Event → ℕ → ℕ → List Event
+lowerFnCall w n f ps k q = ps ++ (push w n (Call f k) ∷ load w n (FnStackPop q))
 
 abbrev mutual
   pub lowerExpr : Expr → Place → ℕ → ℕ → List Event
@@ -195,18 +196,18 @@ abbrev mutual
   lowerExpr (BinaryExpr t a b) w n r =
       let q = r + argRegs a (exprRegs a) in
       let p = q + argRegs b (exprRegs b) in
-      lowerArg w n a r (lowerExpr a w n r) ++ (before q ++ (lowerArg w n b q (lowerExpr b w n q) ++ (before p ++
+      lowerArg w n a r (lowerExpr a w n r) ++ (askBelow q ++ (lowerArg w n b q (lowerExpr b w n q) ++ (askBelow p ++
       load w n (Binary (binKind t) (prev q) (prev p) p))))
   -- `unop`
   lowerExpr (UnaryExpr t a) w n r =
       let q = r + argRegs a (exprRegs a) in
-      lowerArg w n a r (lowerExpr a w n r) ++ (before q ++ load w n (Unary (unKind t) (prev q) q))
+      lowerArg w n a r (lowerExpr a w n r) ++ (askBelow q ++ load w n (Unary (unKind t) (prev q) q))
   lowerExpr (VarAssign x k) w n r = lowerRhs k x w n r
   -- `arraymutexpr`: the value first, then the index
   lowerExpr (ArrayMut x i v) w n r =
       let q = r + exprRegs v in
-      lowerExpr v w n r ++ (before q ++ (lowerExpr i w n q ++ (push w n (Upda x (prev (q + exprRegs i)) (prev q)) ∷ [])))
-  lowerExpr (FnCall f ps) w n r = lowerCall w n f (lowerParams ps w n r) (exprCount ps) (r + paramRegs ps)
+      lowerExpr v w n r ++ (askBelow q ++ (lowerExpr i w n q ++ (push w n (Upda x (prev (q + exprRegs i)) (prev q)) ∷ [])))
+  lowerExpr (FnCall f ps) w n r = lowerFnCall w n f (lowerParams ps w n r) (exprCount ps) (r + paramRegs ps)
 
   -- `assign`: a right side, assigned to x
   pub lowerRhs : Rhs → ℕ → Place → ℕ → ℕ → List Event
@@ -247,7 +248,7 @@ lowerArm w n c q b m end = c ++ (push w n (JmpCnd Jmpf (prev q) (m + 1)) ∷ (b 
 abbrev pub lowerSource : Source → Place → ℕ → ℕ → List Event
 lowerSource (OverName a) w n r = []
 lowerSource (OverCall f ps) w n r =
-    lowerCall w n f (lowerParams ps w n r) (exprCount ps) (r + paramRegs ps) ++ (push w n (Str (prev (r + sourceRegs (OverCall f ps))) 0) ∷ [])
+    lowerFnCall w n f (lowerParams ps w n r) (exprCount ps) (r + paramRegs ps) ++ (push w n (Str (prev (r + sourceRegs (OverCall f ps))) 0) ∷ [])
 
 abbrev pub sourceName : Source → ℕ
 sourceName (OverName a) = a
@@ -257,13 +258,16 @@ sourceName (OverCall f ps) = 0
 abbrev pub inner : Place → Place
 inner w = record { section = w .section; loops = suc (w .loops) }
 
--- `forstmt`: register r is the index, q the size, q + 1 the item, p the comparison; b are the Block's events, m the label at its end
+-- `forstmt` over the array `over`, with the names i and v: its registers `index`, `size` and `less`, the events of its source and of its Block, and the label
+-- `last` at the Block's end. What comes before the label `loop` is done once.
 abbrev pub lowerFor : Place → ℕ → ℕ → ℕ → ℕ → ℕ → ℕ → ℕ → List Event → List Event → ℕ → List Event
-lowerFor w n i v a r q p s b m =
-    Reg ∷ (s ++ (push w n (Stc (One (Num (whole 0))) i) ∷ (Reg ∷ (push w n (Ldas a q) ∷
-    (push (inner w) (n + 1) (Ldn r i) ∷ (Reg ∷ (push (inner w) (n + 1) (Ldav a r (q + 1)) ∷ (push (inner w) (n + 1) (Str (q + 1) v) ∷ (b ++
-    (push (inner w) m (Incrr r) ∷ (push (inner w) m (Str r i) ∷ (Reg ∷ (push (inner w) m (Binary Lt r q p) ∷
-    (push (inner w) m (JmpCnd Jmpt p (n + 1)) ∷ []))))))))))))))
+lowerFor w n i v over index size less source block last =
+    let loop = n + 1 in
+    let item = size + 1 in
+    Reg ∷ (source ++ (push w n (Stc (One (Num (whole 0))) i) ∷ (Reg ∷ (push w n (Ldas over size) ∷
+    (push (inner w) loop (Ldn index i) ∷ (Reg ∷ (push (inner w) loop (Ldav over index item) ∷ (push (inner w) loop (Str item v) ∷ (block ++
+    (push (inner w) last (Incrr index) ∷ (push (inner w) last (Str index i) ∷ (Reg ∷ (push (inner w) last (Binary Lt index size less) ∷
+    (push (inner w) last (JmpCnd Jmpt less loop) ∷ []))))))))))))))
 
 -- a function's parameters, popped in written order from register r on
 abbrev pub lowerPops : List ℕ → Place → ℕ → ℕ → List Event
@@ -285,9 +289,10 @@ abbrev mutual
       lowerArm w n (lowerExpr c w n r) q (orNop b w (n + 1) (lowerStmts b w (n + 1) q)) m end ++ lowerRest k w (m + 1) (q + stmtsRegs b) end
   -- `forstmt`
   lowerStmt (ForStmt i v s b) w n r =
-      let q = suc r + sourceRegs s in
-      lowerFor w n i v (sourceName s) r q (q + 2 + stmtsRegs b) (lowerSource s w n (suc r))
-      (orNop b (inner w) (n + 1) (lowerStmts b (inner w) (n + 1) (q + 2))) (n + 1 + stmtsLabels b)
+      let size = suc r + sourceRegs s in
+      let less = size + 2 + stmtsRegs b in
+      let last = n + 1 + stmtsLabels b in
+      lowerFor w n i v (sourceName s) r size less (lowerSource s w n (suc r)) (orNop b (inner w) (n + 1) (lowerStmts b (inner w) (n + 1) (size + 2))) last
   -- `ret`
   lowerStmt Return w n r = push w n FnRet ∷ []
   lowerStmt (ReturnExpr e) w n r = lowerExpr e w n r ++ (push w n (FnStackPush (prev (r + exprRegs e))) ∷ (push w n FnRet ∷ []))
@@ -324,9 +329,9 @@ lowerTree t = orNop t top 0 (lowerStmts t top 0 0)
 -- the first refusal, from r registers taken and k instructions pushed: "6 or 7, the earlier in emission"
 abbrev pub refusal : List Event → ℕ → ℕ → ℕ
 refusal [] r k = 0
-refusal (Reg ∷ es) r k = cond (leb 96 r) 7 (refusal es (suc r) k)
-refusal (Push w i ∷ es) r k = cond (leb 1024 k) 7 (refusal es r (suc k))
-refusal (Below ∷ es) r k = 6
+refusal (Reg ∷ es) r k = cond (leb 96 r) tooLarge (refusal es (suc r) k)
+refusal (Push w i ∷ es) r k = cond (leb 1024 k) tooLarge (refusal es r (suc k))
+refusal (Below ∷ es) r k = noRegister
 
 -- the instructions of a section, in the order of pushing
 abbrev pub only : Section → Section → Instr → Code → Code
@@ -335,15 +340,15 @@ only Decl Main i c = c
 only Main Decl i c = c
 only Main Main i c = i ∷ c
 
-abbrev pub pushed : Section → List Event → Code
-pushed s [] = []
-pushed s (Reg ∷ es) = pushed s es
-pushed s (Push w i ∷ es) = only s (w .section) i (pushed s es)
-pushed s (Below ∷ es) = pushed s es
+abbrev pub codeOf : Section → List Event → Code
+codeOf s [] = []
+codeOf s (Reg ∷ es) = codeOf s es
+codeOf s (Push w i ∷ es) = only s (w .section) i (codeOf s es)
+codeOf s (Below ∷ es) = codeOf s es
 
 -- declarations, then code
 abbrev pub programOf : List Event → Program
-programOf es = record { code = pushed Decl es ++ pushed Main es; codeStart = length (pushed Decl es) }
+programOf es = record { code = codeOf Decl es ++ codeOf Main es; codeStart = length (codeOf Decl es) }
 
 pub data Lowered : Type 0 where
   refused : ℕ → Lowered

@@ -9,12 +9,12 @@ ghost use lib.ListN.{length, drop, getD};
 ghost use Rattle.lent.specs.Bytes.{beValue, part, splice};
 ghost use Rattle.opc.specs.Op.{Instr, op, Ldc, Stc, Stn, Str};
 ghost use Rattle.opc.specs.Record.{itemsOf, encodeInstr, fieldBytes, fields};
-ghost use Rattle.opc.specs.Fetch.{told};
+ghost use Rattle.opc.specs.inner.Fetch.{fieldsTold};
 ghost use Rattle.ast.specs.Tree.{Lit, Val, Text, Literal, Name};
-ghost use Rattle.compiler.specs.Lower.{Place, before, prev, Reg, push, load, lowerExpr};
-ghost use Rattle.compiler.specs.Token.{literal};
-ghost use Rattle.emit.specs.Run.{kept, after, step, refuse, full, counted, Ready, Did, PushesOp, Loads};
-ghost use Rattle.emit.specs.Made.{Made, binCode};
+ghost use Rattle.compiler.specs.Lower.{Place, askBelow, prev, Reg, push, load, lowerExpr};
+ghost use Rattle.compiler.specs.Literals.{literal};
+ghost use Rattle.emit.specs.inner.Run.{kept, afterEvents, stepEvent, refuse, noRoom, counted, Ready, Did, PushesOp, Loads};
+ghost use Rattle.emit.specs.inner.Made.{Made, binCode};
 
 // What events change: the next register, the instructions pushed, the records and the items written, the refusal;
 // and whether this is the pass for the declarations. The two that are one byte stand together: each call copies it.
@@ -84,7 +84,7 @@ pub fn refused(low: Low, n: u64) -> Low
 
 pub fn nextreg(low: Low) -> Low
     requires { ⌜ low .reg ≤ 96 ⌝ }
-    ensures { λ r. ⌜ r ≡ step Reg low ⌝ }
+    ensures { λ r. ⌜ r ≡ stepEvent Reg low ⌝ }
 {
     if low.refused != 0 {
         return low;
@@ -110,7 +110,7 @@ pub fn prevreg(low: Low) -> u8
 
 // `self.ri - 1` where there is none.
 pub fn below(low: Low) -> Low
-    ensures { λ r. ⌜ r ≡ after (before (low .reg)) low ⌝ }
+    ensures { λ r. ⌜ r ≡ afterEvents (askBelow (low .reg)) low ⌝ }
 {
     if low.refused != 0 {
         return low;
@@ -124,7 +124,7 @@ pub fn below(low: Low) -> Low
 // Whether the next instruction, with n items, is refused.
 pub fn is_full(keep: bool, low: Low, n: usize) -> bool
     requires { ⌜ (low .items ≤ 1024) × (n ≤ 1024) ⌝ }
-    ensures { λ r. ⌜ r ≡ full keep low n ⌝ }
+    ensures { λ r. ⌜ r ≡ noRoom keep low n ⌝ }
 {
     (1024 <= low.count) | (keep & ((1024 <= low.recs) | (1024 < low.items + n)))
 }
@@ -157,7 +157,7 @@ pub fn count(keep: bool, low: Low, n: usize) -> Low
 // The record index becomes the fields f, where `keep`.
 pub fn keep_record(keep: bool, index: usize, f: opc::Fields, out: &mut [u8])
     requires { ⌜ (keep ≡ true → 16 * index + 16 ≤ length (now out)) ⌝ }
-    ensures { λ _. ⌜ now (out .exit) ≡ cond keep (splice (now (out .entry)) (16 * index) (fieldBytes (told f))) (now (out .entry)) ⌝ }
+    ensures { λ _. ⌜ now (out .exit) ≡ cond keep (splice (now (out .entry)) (16 * index) (fieldBytes (fieldsTold f))) (now (out .entry)) ⌝ }
 {
     if keep {
         opc::put_record(out, index, f);
@@ -167,7 +167,7 @@ pub fn keep_record(keep: bool, index: usize, f: opc::Fields, out: &mut [u8])
 
 pub fn push_op(keep: bool, low: Low, f: opc::Fields, out: &mut [u8]) -> Low
     requires { ⌜ Ready low (now out) ⌝ }
-    ensures { λ r. ⌜ PushesOp keep low (fieldBytes (told f)) (now (out .entry)) r (now (out .exit)) ⌝ }
+    ensures { λ r. ⌜ PushesOp keep low (fieldBytes (fieldsTold f)) (now (out .entry)) r (now (out .exit)) ⌝ }
 {
     if low.refused != 0 {
         return low;
@@ -182,7 +182,7 @@ pub fn push_op(keep: bool, low: Low, f: opc::Fields, out: &mut [u8]) -> Low
 // A value into the next register.
 pub fn load(keep: bool, low: Low, f: opc::Fields, out: &mut [u8]) -> Low
     requires { ⌜ Ready low (now out) ⌝ }
-    ensures { λ r. ⌜ Loads keep low (fieldBytes (told f)) (now (out .entry)) r (now (out .exit)) ⌝ }
+    ensures { λ r. ⌜ Loads keep low (fieldBytes (fieldsTold f)) (now (out .entry)) r (now (out .exit)) ⌝ }
 {
     let a = nextreg(low);
     push_op(keep, a, f, out)
@@ -190,7 +190,7 @@ pub fn load(keep: bool, low: Low, f: opc::Fields, out: &mut [u8]) -> Low
 
 // A record's fields, with no items.
 pub fn fields_of(lbl: u64, code: u8, kind: u8, a: u8, b: u8, c: u8, word: u64) -> opc::Fields
-    ensures { λ r. ⌜ told r ≡ fields lbl code kind a b c 0 word ⌝ }
+    ensures { λ r. ⌜ fieldsTold r ≡ fields lbl code kind a b c 0 word ⌝ }
 {
     opc::Fields {
         code,
@@ -222,7 +222,7 @@ pub fn bin_code(tok: u8) -> u8
 
 pub fn push_at(keep: bool, p: Done, f: opc::Fields, out: &mut [u8]) -> Done
     requires { ⌜ Ready (p .low) (now out) ⌝ }
-    ensures { λ r. ⌜ (r .cont ≡ p .cont) × (r .body ≡ p .body) × (r .lbl ≡ p .lbl) × PushesOp keep (p .low) (fieldBytes (told f)) (now (out .entry)) (r .low) (now (out .exit)) ⌝ }
+    ensures { λ r. ⌜ (r .cont ≡ p .cont) × (r .body ≡ p .body) × (r .lbl ≡ p .lbl) × PushesOp keep (p .low) (fieldBytes (fieldsTold f)) (now (out .entry)) (r .low) (now (out .exit)) ⌝ }
 {
     let q = push_op(keep, p.low, f, out);
     start(p.cont, p.body, p.lbl, q)
@@ -230,7 +230,7 @@ pub fn push_at(keep: bool, p: Done, f: opc::Fields, out: &mut [u8]) -> Done
 
 pub fn load_at(keep: bool, p: Done, f: opc::Fields, out: &mut [u8]) -> Done
     requires { ⌜ Ready (p .low) (now out) ⌝ }
-    ensures { λ r. ⌜ (r .cont ≡ p .cont) × (r .body ≡ p .body) × (r .lbl ≡ p .lbl) × Loads keep (p .low) (fieldBytes (told f)) (now (out .entry)) (r .low) (now (out .exit)) ⌝ }
+    ensures { λ r. ⌜ (r .cont ≡ p .cont) × (r .body ≡ p .body) × (r .lbl ≡ p .lbl) × Loads keep (p .low) (fieldBytes (fieldsTold f)) (now (out .entry)) (r .low) (now (out .exit)) ⌝ }
 {
     let q = load(keep, p.low, f, out);
     start(p.cont, p.body, p.lbl, q)
@@ -247,7 +247,7 @@ pub fn moved(cont: usize, body: usize, r: Done) -> Done
 // What was read in a part, counted from the whole's start; then the test of the register before.
 pub fn shift(cont: usize, body: usize, r: Done) -> Done
     requires { ⌜ (cont + r .cont < 2 ^ 64) × (body + r .body < 2 ^ 64) ⌝ }
-    ensures { λ q. ⌜ q ≡ record { cont = cont + r .cont; body = body + r .body; lbl = r .lbl; low = after (before (r .low .reg)) (r .low) } ⌝ }
+    ensures { λ q. ⌜ q ≡ record { cont = cont + r .cont; body = body + r .body; lbl = r .lbl; low = afterEvents (askBelow (r .low .reg)) (r .low) } ⌝ }
 {
     let low = below(r.low);
     start(cont + r.cont, body + r.body, r.lbl, low)

@@ -6,7 +6,7 @@ use lib.IntN.{ℤ, pos, negsuc}
 use lib.Count.{onesIn}
 use Rattle.sifv.specs.Value.{Value}
 use Rattle.tables.specs.Tables.{Program}
-use Rattle.vm.specs.RuntimeErr.{number, details}
+use Rattle.vm.specs.RuntimeErr.{stopNumber, details}
 use Rattle.vm.specs.Machine.{State, Answer, Done, Stopped, Spent, Ran, line}
 use Rattle.vm.specs.StateBytes.{mark}
 use Rattle.text.specs.Text.{ascii, decimal, valueText, words, lineOf}
@@ -18,7 +18,7 @@ signed (negsuc n) = ascii "-" ++ decimal (suc n)
 -- "answer and steps"; "a stop prints number, line, details after the steps"
 abbrev pub endLine : Program → Answer → State → List ℕ
 endLine p Done s = lineOf (ascii "end" ∷ words "done" (s .count ∷ []))
-endLine p (Stopped e) s = lineOf (ascii "end" ∷ (ascii "stopped" ∷ (decimal (s .count) ∷ (decimal (number e) ∷ (signed (line p (s .machine)) ∷ map decimal (details e))))))
+endLine p (Stopped e) s = lineOf (ascii "end" ∷ (ascii "stopped" ∷ (decimal (s .count) ∷ (decimal (stopNumber e) ∷ (signed (line p (s .machine)) ∷ map decimal (details e))))))
 endLine p Spent s = lineOf (ascii "end" ∷ words "spent" (s .count ∷ []))
 
 -- "text number and value, names ascending"

@@ -1,5 +1,3 @@
 pub mod Ending
-pub mod EndBytes
-pub mod EndLaws
-pub mod Left
-pub mod LeftLaws
+pub mod inner
+pub mod laws

@@ -6,10 +6,10 @@ ghost use lib.ListN.{length, take};
 ghost use lib.Count.{onesIn};
 ghost use Rattle.lent.specs.Bytes.{beValue, part};
 ghost use Rattle.sifv.specs.Slot.{decodeSlot};
-ghost use Rattle.text.specs.Text.{ascii, decimal, fields};
+ghost use Rattle.text.specs.Text.{ascii, decimal, numberFields};
 ghost use Rattle.text.specs.Put.{Put};
 ghost use Rattle.ending.specs.Ending.{signed, nameLine};
-ghost use Rattle.ending.specs.EndBytes.{signedOf, detailCount, stopIn, endIn, heldIn, namesIn, ranIn};
+ghost use Rattle.ending.specs.inner.EndBytes.{signedOf, detailCount, stopIn, endIn, heldIn, namesIn, ranIn};
 
 // How many details a stop has.
 fn detail_count(n: u64) -> u64
@@ -36,7 +36,7 @@ fn detail_count(n: u64) -> u64
 // The details of the stop with a number, a blank before each.
 fn put_details(out: &mut [u8], at: usize, report: &[u8], number: u64) -> usize
     requires { ⌜ (at ≤ length (now out)) × (48 ≤ length (now report)) ⌝ }
-    ensures { λ r. ⌜ Put (now (out .entry)) at (fields (take (detailCount number) (beValue (part (now (report .entry)) 16 8) ∷ (beValue (part (now (report .entry)) 24 8) ∷ (beValue (part (now (report .entry)) 32 8) ∷ []))))) (now (out .exit)) r ⌝ }
+    ensures { λ r. ⌜ Put (now (out .entry)) at (numberFields (take (detailCount number) (beValue (part (now (report .entry)) 16 8) ∷ (beValue (part (now (report .entry)) 24 8) ∷ (beValue (part (now (report .entry)) 32 8) ∷ []))))) (now (out .exit)) r ⌝ }
 {
     let n = detail_count(number);
     if n == 0 {

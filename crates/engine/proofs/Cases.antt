@@ -1,14 +1,13 @@
 -- The cases of document 01 that are marked P, 1 to 8, as one table: the file's bytes in hex, its listing, and the registers, stacks, functions, position and
 -- count that the run leaves. One computation checks all of them.
-use Prim.Native.Nat.{ℕ}
 use mathlib.Core.List.{List, [], _∷_}
 use lib.Dec.{T}
 use lib.Ieee.{add, sub, mul, div, rem, neg, lt, le, eq, ne, ofInt, ofBits, toBits}
 use lib.Count.{onesIn}
-use Rattle.numeric.specs.Index.{indexOf}
 use Rattle.ast.specs.File.{readTree}
 use Rattle.engine.specs.Listing.{listing}
 use Rattle.engine.proofs.Shown.{Row, row, holdAll}
+use Rattle.numeric.specs.Index.{indexOf}
 
 abbrev cases : List Row
 cases =

@@ -1,15 +1,14 @@
 -- Programs with operations, stops and jumps that no tree yields: code start, steps given, instructions, and what the original leaves behind.
-use Prim.Native.Nat.{ℕ}
 use mathlib.Core.Bool.{true, false}
 use mathlib.Core.List.{List, [], _∷_}
 use lib.Dec.{T}
 use lib.Ieee.{add, sub, mul, div, rem, neg, lt, le, eq, ne, ofInt, ofBits, toBits, binary64}
 use lib.Count.{onesIn}
-use Rattle.numeric.specs.Index.{indexOf}
 use Rattle.engine.proofs.Shown.{ProgramRow, programRow, leaveAll}
 use Rattle.sifv.specs.Value.{Num, Bl, Null, One, Arr, Tab}
 use Rattle.sifv.specs.Value.{Str as Text}
 use Rattle.opc.specs.Op.{Add, Neq, Jmpt, Jmpf, Binary, Ldc, Ldav, Upda, Mv, Stc, JmpCnd, Jmpa, Incrr, Decrr, Fn, Call, FnRet, FnStackPush, Tbli, Tblg, Nop, Stop, instr}
+use Rattle.numeric.specs.Index.{indexOf}
 
 abbrev programs : List ProgramRow
 programs =

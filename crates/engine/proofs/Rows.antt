@@ -1,14 +1,13 @@
 -- More rows of the same form. Listings and states are the original's, built from its sources and run by oracle/. Together with the cases and the programs
 -- they have every operation, every stop, every refusal, and each lowering rule that surprises.
-use Prim.Native.Nat.{ℕ}
 use mathlib.Core.List.{List, [], _∷_}
 use lib.Dec.{T}
 use lib.Ieee.{add, sub, mul, div, rem, neg, lt, le, eq, ne, ofInt, ofBits, toBits}
 use lib.Count.{onesIn}
-use Rattle.numeric.specs.Index.{indexOf}
 use Rattle.ast.specs.File.{readTree}
 use Rattle.engine.specs.Listing.{listing}
 use Rattle.engine.proofs.Shown.{Row, row, holdAll}
+use Rattle.numeric.specs.Index.{indexOf}
 
 abbrev rows : List Row
 rows =

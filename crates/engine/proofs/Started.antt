@@ -8,9 +8,8 @@ use mathlib.Core.Option.{some}
 use lib.Ieee.{ofBits, binary64}
 use lib.ListN.{length, length-replicate}
 use Rattle.lent.specs.Bytes.{beBytes}
-use Rattle.lent.specs.Numbers.{beBytes-bytes}
+use Rattle.lent.specs.laws.Numbers.{beBytes-bytes}
 use Rattle.sifv.specs.Value.{One, Num}
-use Rattle.sifv.specs.Slot.{zeros}
 use Rattle.ast.specs.Tree.{Val, Literal, Expression, VarInit, Stmts, noStmts, moreStmts}
 use Rattle.ast.specs.File.{readTree}
 use Rattle.tables.specs.ProgramBytes.{programSize}
@@ -21,7 +20,9 @@ use Rattle.walk.specs.Bound.{bound}
 use Rattle.lower.specs.LowerCall.{lowerCall}
 use Rattle.calls.specs.Calls.{startCall}
 use Rattle.engine.specs.CallList.{Call, callAll, fresh}
-use Rattle.engine.specs.Demand3.{Starts, script-starts, Demand3, demand3}
+use Rattle.engine.specs.laws.Demand3Proof.{script-starts, demand3}
+use Rattle.lent.specs.Lists.{zeros}
+use Rattle.engine.specs.Demand3.{Starts, Demand3}
 
 -- its 27 bytes as one number
 abbrev digits : ℕ

@@ -1,18 +1,18 @@
 -- A list of calls in bytes, so that code can carry it out: docs/FORMATS.md, "List of calls". Definitions only.
 use Prim.Native.Nat.{ℕ, zero, suc, _/_, min}
-use mathlib.Core.Bool.{Bool, true, false, cond}
+use mathlib.Core.Bool.{cond}
 use mathlib.Core.List.{List, [], _∷_}
 use mathlib.Core.Option.{Option, none, some}
 use lib.Dec.{eqb}
 use lib.ListN.{length, getD, take, drop}
 use Rattle.lent.specs.Bytes.{beValue, part}
-use Rattle.sifv.specs.Slot.{zeros}
-use Rattle.engine.specs.CallList.{Call, Run, ReadName, Ending, endingIn}
+use Rattle.engine.specs.CallList.{Call, Run, ReadName, Ending}
 use Rattle.engine.specs.declared.Last.{Last}
+use Rattle.lent.specs.Lists.{zeros}
 
 -- 16 bytes: kind, 5 bytes that are not looked at, length of the buffer lent for the answer, number
-abbrev pub number : List ℕ → ℕ
-number e = beValue (part e 8 8)
+abbrev pub callNumber : List ℕ → ℕ
+callNumber e = beValue (part e 8 8)
 
 -- the buffer: zeros, at most 256 of them
 abbrev pub lentOut : List ℕ → List ℕ
@@ -20,7 +20,7 @@ lentOut e = zeros (min (beValue (part e 6 2)) 256)
 
 -- kind 0 is a run with its number as steps, any other reads the name of that number
 abbrev pub callOf : List ℕ → Call
-callOf e = cond (eqb (getD e 0 0) 0) (Run (number e) (lentOut e)) (ReadName (number e) (lentOut e))
+callOf e = cond (eqb (getD e 0 0) 0) (Run (callNumber e) (lentOut e)) (ReadName (callNumber e) (lentOut e))
 
 abbrev pub callsFrom : ℕ → List ℕ → List Call
 callsFrom zero b = []

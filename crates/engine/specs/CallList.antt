@@ -7,7 +7,7 @@ use mathlib.Core.Option.{Option, none, some}
 use lib.Dec.{eqb}
 use lib.ListN.{getD}
 use Rattle.lent.specs.Bytes.{beValue, part}
-use Rattle.vm.specs.RuntimeErr.{number, details}
+use Rattle.vm.specs.RuntimeErr.{stopNumber, details}
 use Rattle.vm.specs.Machine.{Answer, Done, Stopped, Spent}
 use Rattle.calls.specs.Calls.{RunAnswered, runCall, readCall}
 
@@ -24,14 +24,14 @@ outcome program state (Run n out) = runCall program state n out
 outcome program state (ReadName x out) = let a = readCall state x out in record { result = a .result; state = state; report = a .buffer }
 
 -- the steps that a call gives
-abbrev pub steps : Call → ℕ
-steps (Run n out) = n
-steps (ReadName x out) = 0
+abbrev pub stepsGiven : Call → ℕ
+stepsGiven (Run n out) = n
+stepsGiven (ReadName x out) = 0
 
 -- the steps taken, as told in a run's report
-abbrev pub told : Call → List ℕ → ℕ
-told (Run n out) r = beValue (part r 40 8)
-told (ReadName x out) r = 0
+abbrev pub stepsTold : Call → List ℕ → ℕ
+stepsTold (Run n out) r = beValue (part r 40 8)
+stepsTold (ReadName x out) r = 0
 
 -- How a run ended, as told in its report: answer, number and three details, zero where a stop has fewer. Neither the line nor the steps taken.
 pub record Ending : Type 0 where
@@ -42,17 +42,17 @@ pub record Ending : Type 0 where
 abbrev pub endingIn : List ℕ → Ending
 endingIn r = record { answer = getD r 0 0; number = getD r 1 0; details = beValue (part r 16 8) ∷ (beValue (part r 24 8) ∷ (beValue (part r 32 8) ∷ [])) }
 
-abbrev pub ending : ℕ → ℕ → List ℕ → Ending
-ending a n d = record { answer = a; number = n; details = getD d 0 0 ∷ (getD d 1 0 ∷ (getD d 2 0 ∷ [])) }
+abbrev pub endingWith : ℕ → ℕ → List ℕ → Ending
+endingWith a n d = record { answer = a; number = n; details = getD d 0 0 ∷ (getD d 1 0 ∷ (getD d 2 0 ∷ [])) }
 
 -- done 0, "stopped at an error" 1, spent 2
 abbrev pub endingOf : Answer → Ending
-endingOf Done = ending 0 0 []
-endingOf (Stopped e) = ending 1 (number e) (details e)
-endingOf Spent = ending 2 0 []
+endingOf Done = endingWith 0 0 []
+endingOf (Stopped e) = endingWith 1 (stopNumber e) (details e)
+endingOf Spent = endingWith 2 0 []
 
 -- What calls leave: the state's bytes; over the accepted ones the steps given and those told as taken; and "how the last steps given, if any, ended".
-pub record Left : Type 0 where
+pub record AfterCalls : Type 0 where
   pub state : List ℕ
   pub given : ℕ
   pub taken : ℕ
@@ -64,19 +64,19 @@ latest zero e o = o
 latest (suc n) e o = some e
 
 -- "a refused call gave no steps"
-abbrev pub joined : Call → RunAnswered → Left → Left
-joined c a l =
+abbrev pub withCall : Call → RunAnswered → AfterCalls → AfterCalls
+withCall c a l =
     cond (eqb (a .result) 0)
-    (record { state = a .state; given = l .given + steps c; taken = l .taken + told c (a .report); last = latest (steps c) (endingIn (a .report)) (l .last) })
+    (record { state = a .state; given = l .given + stepsGiven c; taken = l .taken + stepsTold c (a .report); last = latest (stepsGiven c) (endingIn (a .report)) (l .last) })
     (record { state = a .state; given = l .given; taken = l .taken; last = l .last })
 
-abbrev pub after : List ℕ → Call → Left → Left
-after program c l = joined c (outcome program (l .state) c) l
+abbrev pub afterCall : List ℕ → Call → AfterCalls → AfterCalls
+afterCall program c l = withCall c (outcome program (l .state) c) l
 
-abbrev pub callAll : List ℕ → List Call → Left → Left
+abbrev pub callAll : List ℕ → List Call → AfterCalls → AfterCalls
 callAll program [] l = l
-callAll program (c ∷ cs) l = callAll program cs (after program c l)
+callAll program (c ∷ cs) l = callAll program cs (afterCall program c l)
 
 -- a state as start left it
-abbrev pub fresh : List ℕ → Left
+abbrev pub fresh : List ℕ → AfterCalls
 fresh state = record { state = state; given = 0; taken = 0; last = none }

@@ -1,9 +1,6 @@
 pub mod Listing
-pub mod CallLaws
-pub mod Scripts
-pub mod Accepting
 pub mod CallList
-pub mod ListLaws
 pub mod Demand3
 pub mod CallBytes
 pub mod CarriedOut
+pub mod laws

@@ -9,7 +9,7 @@ ghost use Rattle.lower.specs.LowerCall.{answered, lowerCall};
 ghost use Rattle.calls.specs.Calls.{startCall, runCall, readCall};
 ghost use Rattle.engine.specs.CallList.{Call, Run, ReadName, endingIn};
 ghost use Rattle.engine.specs.CallBytes.{callOf, lastOf};
-ghost use Rattle.engine.specs.CarriedOut.{Leaves, Follows, CarriedOut};
+ghost use Rattle.engine.specs.CarriedOut.{Leaves, OneCall, CarriedOut};
 
 // ---- the calls from C: a slice is a pointer and a length
 
@@ -69,7 +69,7 @@ fn told(report: &[u8]) -> Last
 }
 
 fn run_next(program: &[u8], state: &mut [u8], steps: u64, out: &mut [u8], last: Last) -> Last
-    ensures { λ r. ⌜ Follows (now (program .entry)) (Run steps (now (out .entry))) (now (state .entry)) last (now (state .exit)) r ⌝ }
+    ensures { λ r. ⌜ OneCall (now (program .entry)) (Run steps (now (out .entry))) (now (state .entry)) last (now (state .exit)) r ⌝ }
 {
     let n = calls::run(program, state, steps, out);
     if n != 0 {
@@ -82,7 +82,7 @@ fn run_next(program: &[u8], state: &mut [u8], steps: u64, out: &mut [u8], last: 
 }
 
 fn read_next(program: &[u8], state: &[u8], text: u64, out: &mut [u8], last: Last) -> Last
-    ensures { λ r. ⌜ Follows (now (program .entry)) (ReadName text (now (out .entry))) (now (state .entry)) last (now (state .entry)) r ⌝ }
+    ensures { λ r. ⌜ OneCall (now (program .entry)) (ReadName text (now (out .entry))) (now (state .entry)) last (now (state .entry)) r ⌝ }
 {
     let n = calls::read_name(state, text, out);
     last
@@ -103,7 +103,7 @@ fn out_length(calls: &[u8], at: usize) -> usize
 // The call at byte `at` of a list.
 fn call_next(program: &[u8], state: &mut [u8], calls: &[u8], at: usize, last: Last) -> Last
     requires { ⌜ at + 16 ≤ length (now calls) ⌝ }
-    ensures { λ r. ⌜ Follows (now (program .entry)) (callOf (part (now (calls .entry)) at 16)) (now (state .entry)) last (now (state .exit)) r ⌝ }
+    ensures { λ r. ⌜ OneCall (now (program .entry)) (callOf (part (now (calls .entry)) at 16)) (now (state .entry)) last (now (state .exit)) r ⌝ }
 {
     let mut out = [0u8; 256];
     let len = out_length(calls, at);

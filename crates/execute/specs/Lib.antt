@@ -1,10 +1,2 @@
-pub mod View
-pub mod Laying
-pub mod Acts
-pub mod Stacks
-pub mod Arrays
-pub mod Readers
-pub mod Literals
-pub mod Programs
-pub mod TableView
-pub mod Tabled
+pub mod laws
+pub mod inner

@@ -6,23 +6,23 @@ ghost use Prim.Native.Nat.{_+_, _*_, _%_, _≤_, _<_};
 ghost use mathlib.Core.Bool.{cond};
 ghost use mathlib.Core.Option.{some};
 ghost use lib.Dec.{eqb};
-ghost use Rattle.sifv.specs.Formed.{Formed};
 ghost use Rattle.vm.specs.StateBytes.{stackAt, framesAt, functionsAt};
 ghost use lib.ListN.{length, getD};
 ghost use Rattle.lent.specs.Bytes.{part, splice};
 ghost use Rattle.sifv.specs.Value.{One, Bl};
-ghost use Rattle.sifv.specs.Seen.{bare, kindIn, seen, shown, setItem};
+ghost use Rattle.sifv.specs.inner.Seen.{bare, kindIn, seen, shown, setItem};
 ghost use Rattle.sifv.specs.Slot.{singleOf, encodeSlot, decodeSlot};
-ghost use Rattle.sifv.specs.StoredForm.{storedOf};
+ghost use Rattle.sifv.specs.inner.StoredForm.{storedOf};
 ghost use Rattle.vm.specs.RuntimeErr as Rule;
 ghost use Rattle.vm.specs.Operation as Operation;
 ghost use Rattle.vm.specs.Machine as Machine;
 ghost use Rattle.opc.specs.declared.UnOpKind.the-variants.{Lneg, Nneg};
-ghost use Rattle.opc.specs.Shows.{SingleIn, ShowsLiteral};
-ghost use Rattle.opc.specs.Fetched.{Entered, entryOf};
+ghost use Rattle.opc.specs.inner.Shows.{SingleIn, ShowsLiteral, Entered, entryOf};
 ghost use Rattle.tables.specs.Tables.{Program, labelAt};
-ghost use Rattle.execute.specs.Programs.{programOf, Ready, jmpModel, jumpedOf, takenOf};
-ghost use Rattle.execute.specs.View.{given, binModel, unModel, poolOf, recordAt, arrayAt, literalAt, InPool, regsOf, namesOf, view, onLoc, Reads, Loaded, Wrote, Named, steppedOf, Stepped, Neat, Canon, Holds, someOf, itemOf, updateOf};
+ghost use Rattle.execute.specs.inner.View.{given, binModel, unModel, poolOf, arrayAt, literalIn, InPool, regsOf, namesOf, view, onLoc, ReadsSingle, Loaded, Wrote, Named, steppedOf, Stepped, Neat, Canon, Holds, someOf, itemIn, updateOf};
+ghost use Rattle.sifv.specs.inner.Forms.{Formed};
+ghost use Rattle.execute.specs.inner.ProgramView.{programIn, ProgramReady, jmpModel, jumpedOf, takenOf};
+ghost use Rattle.opc.specs.inner.Fetch.{recordAt};
 use opc::BinOpKind;
 use opc::JmpOpKind;
 use opc::Op;
@@ -304,7 +304,7 @@ fn loads(state: &mut [u8], loc: Loc, dest: usize, got: Got) -> Step
 // ---- operators
 
 fn numbers(kind: BinOpKind, x: f64, y: f64) -> Got
-    ensures { λ r. ⌜ Reads (Operation.one (Operation.numbers (binModel kind) x y)) r ⌝ }
+    ensures { λ r. ⌜ ReadsSingle (Operation.one (Operation.numbers (binModel kind) x y)) r ⌝ }
 {
     match kind {
         BinOpKind::Add => Got::Ok(sifv::pack(SifVal::Num(x + y))),
@@ -325,7 +325,7 @@ fn numbers(kind: BinOpKind, x: f64, y: f64) -> Got
 }
 
 fn truths(kind: BinOpKind, x: bool, y: bool) -> Got
-    ensures { λ r. ⌜ Reads (Operation.one (Operation.truths (binModel kind) x y)) r ⌝ }
+    ensures { λ r. ⌜ ReadsSingle (Operation.one (Operation.truths (binModel kind) x y)) r ⌝ }
 {
     match kind {
         BinOpKind::Add => Got::Err(ty_mismatch()),
@@ -347,7 +347,7 @@ fn truths(kind: BinOpKind, x: bool, y: bool) -> Got
 
 // A second operand beside one that no operator takes.
 fn mismatched(src2: usize, w: SifVal) -> Got
-    ensures { λ r. ⌜ Reads (Machine.full (Rule.RegNoContents src2) (bare w) (λ _. Operation.Err Rule.TyMismatch)) r ⌝ }
+    ensures { λ r. ⌜ ReadsSingle (Operation.full (Rule.RegNoContents src2) (bare w) (λ _. Operation.Err Rule.TyMismatch)) r ⌝ }
 {
     match w {
         SifVal::Empty => Got::Err(reg_no_contents(src2)),
@@ -362,7 +362,7 @@ fn mismatched(src2: usize, w: SifVal) -> Got
 
 // A second operand beside a yes/no.
 fn with_truth(kind: BinOpKind, x: bool, src2: usize, w: SifVal) -> Got
-    ensures { λ r. ⌜ Reads (Machine.full (Rule.RegNoContents src2) (bare w) (λ u. Operation.binary (binModel kind) (One (Bl x)) u)) r ⌝ }
+    ensures { λ r. ⌜ ReadsSingle (Operation.full (Rule.RegNoContents src2) (bare w) (λ u. Operation.binary (binModel kind) (One (Bl x)) u)) r ⌝ }
 {
     match w {
         SifVal::Empty => Got::Err(reg_no_contents(src2)),
@@ -378,7 +378,7 @@ fn with_truth(kind: BinOpKind, x: bool, src2: usize, w: SifVal) -> Got
 // Two operands that are not two numbers.
 fn others(kind: BinOpKind, src1: usize, src2: usize, v: SifVal, w: SifVal) -> Got
     requires { ⌜ (kindIn v ≡ 1 → kindIn w ≡ 1 → ⊥) ⌝ }
-    ensures { λ r. ⌜ Reads (Machine.full (Rule.RegNoContents src1) (bare v) (λ t. Machine.full (Rule.RegNoContents src2) (bare w) (λ u. Operation.binary (binModel kind) t u))) r ⌝ }
+    ensures { λ r. ⌜ ReadsSingle (Operation.full (Rule.RegNoContents src1) (bare v) (λ t. Operation.full (Rule.RegNoContents src2) (bare w) (λ u. Operation.binary (binModel kind) t u))) r ⌝ }
 {
     match v {
         SifVal::Empty => Got::Err(reg_no_contents(src1)),
@@ -393,7 +393,7 @@ fn others(kind: BinOpKind, src1: usize, src2: usize, v: SifVal, w: SifVal) -> Go
 
 fn binop(state: &[u8], kind: BinOpKind, src1: usize, src2: usize) -> Got
     requires { ⌜ Neat (now state) × (src1 < 96) × (src2 < 96) ⌝ }
-    ensures { λ r. ⌜ Reads (Machine.full (Rule.RegNoContents src1) (regsOf (now (state .entry)) src1) (λ t. Machine.full (Rule.RegNoContents src2) (regsOf (now (state .entry)) src2) (λ u. Operation.binary (binModel kind) t u))) r ⌝ }
+    ensures { λ r. ⌜ ReadsSingle (Operation.full (Rule.RegNoContents src1) (regsOf (now (state .entry)) src1) (λ t. Operation.full (Rule.RegNoContents src2) (regsOf (now (state .entry)) src2) (λ u. Operation.binary (binModel kind) t u))) r ⌝ }
 {
     let a = reg(src1);
     let b = reg(src2);
@@ -408,7 +408,7 @@ fn binop(state: &[u8], kind: BinOpKind, src1: usize, src2: usize) -> Got
 
 fn lneg(state: &[u8], src1: usize) -> Got
     requires { ⌜ Neat (now state) × (src1 < 96) ⌝ }
-    ensures { λ r. ⌜ Reads (Machine.full Rule.TyMismatch (regsOf (now (state .entry)) src1) (λ v. Operation.unary (unModel Lneg) v)) r ⌝ }
+    ensures { λ r. ⌜ ReadsSingle (Operation.full Rule.TyMismatch (regsOf (now (state .entry)) src1) (λ v. Operation.unary (unModel Lneg) v)) r ⌝ }
 {
     let at = reg(src1);
     if sifv::kind_at(state, at) != 3 {
@@ -419,7 +419,7 @@ fn lneg(state: &[u8], src1: usize) -> Got
 
 fn nneg(state: &[u8], src1: usize) -> Got
     requires { ⌜ Neat (now state) × (src1 < 96) ⌝ }
-    ensures { λ r. ⌜ Reads (Machine.full Rule.TyMismatch (regsOf (now (state .entry)) src1) (λ v. Operation.unary (unModel Nneg) v)) r ⌝ }
+    ensures { λ r. ⌜ ReadsSingle (Operation.full Rule.TyMismatch (regsOf (now (state .entry)) src1) (λ v. Operation.unary (unModel Nneg) v)) r ⌝ }
 {
     let at = reg(src1);
     if sifv::kind_at(state, at) != 1 {
@@ -430,7 +430,7 @@ fn nneg(state: &[u8], src1: usize) -> Got
 
 fn unop(state: &[u8], kind: UnOpKind, src1: usize) -> Got
     requires { ⌜ Neat (now state) × (src1 < 96) ⌝ }
-    ensures { λ r. ⌜ Reads (Machine.full Rule.TyMismatch (regsOf (now (state .entry)) src1) (λ v. Operation.unary (unModel kind) v)) r ⌝ }
+    ensures { λ r. ⌜ ReadsSingle (Operation.full Rule.TyMismatch (regsOf (now (state .entry)) src1) (λ v. Operation.unary (unModel kind) v)) r ⌝ }
 {
     match kind {
         UnOpKind::Lneg => lneg(state, src1),
@@ -440,7 +440,7 @@ fn unop(state: &[u8], kind: UnOpKind, src1: usize) -> Got
 
 fn incrr(state: &[u8], src: usize) -> Got
     requires { ⌜ Neat (now state) × (src < 96) ⌝ }
-    ensures { λ r. ⌜ Reads (Machine.full Rule.InvalidIncr (regsOf (now (state .entry)) src) (λ v. Operation.incr v)) r ⌝ }
+    ensures { λ r. ⌜ ReadsSingle (Operation.full Rule.InvalidIncr (regsOf (now (state .entry)) src) (λ v. Operation.incr v)) r ⌝ }
 {
     let at = reg(src);
     let k = sifv::kind_at(state, at);
@@ -455,7 +455,7 @@ fn incrr(state: &[u8], src: usize) -> Got
 
 fn decrr(state: &[u8], src: usize) -> Got
     requires { ⌜ Neat (now state) × (src < 96) ⌝ }
-    ensures { λ r. ⌜ Reads (Machine.full Rule.InvalidDecr (regsOf (now (state .entry)) src) (λ v. Operation.decr v)) r ⌝ }
+    ensures { λ r. ⌜ ReadsSingle (Operation.full Rule.InvalidDecr (regsOf (now (state .entry)) src) (λ v. Operation.decr v)) r ⌝ }
 {
     let at = reg(src);
     let k = sifv::kind_at(state, at);
@@ -513,8 +513,8 @@ fn stored(program: &[u8], val: usize) -> sifv::Stored
 
 // The array or the table in record val, over the slot at byte at.
 fn put_contents(program: &[u8], state: &mut [u8], at: usize, val: usize)
-    requires { ⌜ (32768 ≤ length (now program)) × (at + 256 ≤ length (now state)) × Formed (part (now state) at 256) × (val < 1024) × ShowsLiteral (poolOf (now program)) (recordAt (now program) val) (literalAt (now program) val) × (recordAt (now program) val .kind < 5 → ⊥) ⌝ }
-    ensures { λ _. ⌜ now (state .exit) ≡ splice (now (state .entry)) at (encodeSlot (some (literalAt (now (program .entry)) val))) ⌝ }
+    requires { ⌜ (32768 ≤ length (now program)) × (at + 256 ≤ length (now state)) × Formed (part (now state) at 256) × (val < 1024) × ShowsLiteral (poolOf (now program)) (recordAt (now program) val) (literalIn (now program) val) × (recordAt (now program) val .kind < 5 → ⊥) ⌝ }
+    ensures { λ _. ⌜ now (state .exit) ≡ splice (now (state .entry)) at (encodeSlot (some (literalIn (now (program .entry)) val))) ⌝ }
 {
     if opc::kind_of(program, val) == 5 {
         put_array(
@@ -531,8 +531,8 @@ fn put_contents(program: &[u8], state: &mut [u8], at: usize, val: usize)
 
 // Both look at the kind, so that a single value is written without a call.
 fn loadc(program: &[u8], state: &mut [u8], dest: usize, val: usize) -> Did
-    requires { ⌜ (32768 ≤ length (now program)) × Neat (now state) × (dest < 96) × (val < 1024) × ShowsLiteral (poolOf (now program)) (recordAt (now program) val) (literalAt (now program) val) ⌝ }
-    ensures { λ r. ⌜ Wrote (now (state .entry)) (0 + dest * 256) (now (state .exit)) (Operation.Ok (some (literalAt (now (program .entry)) val))) r ⌝ }
+    requires { ⌜ (32768 ≤ length (now program)) × Neat (now state) × (dest < 96) × (val < 1024) × ShowsLiteral (poolOf (now program)) (recordAt (now program) val) (literalIn (now program) val) ⌝ }
+    ensures { λ r. ⌜ Wrote (now (state .entry)) (0 + dest * 256) (now (state .exit)) (Operation.Ok (some (literalIn (now (program .entry)) val))) r ⌝ }
 {
     let at = reg(dest);
     if opc::kind_of(program, val) < 5 {
@@ -544,8 +544,8 @@ fn loadc(program: &[u8], state: &mut [u8], dest: usize, val: usize) -> Did
 }
 
 fn storec(program: &[u8], state: &mut [u8], val: usize, name: usize) -> Did
-    requires { ⌜ (32768 ≤ length (now program)) × Neat (now state) × (name < 64) × (val < 1024) × ShowsLiteral (poolOf (now program)) (recordAt (now program) val) (literalAt (now program) val) ⌝ }
-    ensures { λ r. ⌜ Named (now (state .entry)) (now (state .exit)) (Operation.Ok (Operation.put (namesOf (now (state .entry))) name (some (literalAt (now (program .entry)) val)))) r ⌝ }
+    requires { ⌜ (32768 ≤ length (now program)) × Neat (now state) × (name < 64) × (val < 1024) × ShowsLiteral (poolOf (now program)) (recordAt (now program) val) (literalIn (now program) val) ⌝ }
+    ensures { λ r. ⌜ Named (now (state .entry)) (now (state .exit)) (Operation.Ok (Operation.put (namesOf (now (state .entry))) name (some (literalIn (now (program .entry)) val)))) r ⌝ }
 {
     let at = slot(name);
     if opc::kind_of(program, val) < 5 {
@@ -604,7 +604,7 @@ fn no_array(kind: u8, name: usize) -> RuntimeErr
 
 fn loadarrs(state: &[u8], name: usize) -> Got
     requires { ⌜ Neat (now state) × (name < 64) ⌝ }
-    ensures { λ r. ⌜ Reads (Operation.size (namesOf (now (state .entry))) name) r ⌝ }
+    ensures { λ r. ⌜ ReadsSingle (Operation.size (namesOf (now (state .entry))) name) r ⌝ }
 {
     let at = slot(name);
     let k = sifv::kind_at(state, at);
@@ -617,7 +617,7 @@ fn loadarrs(state: &[u8], name: usize) -> Got
 
 fn item(state: &[u8], name: usize, i: u64) -> Got
     requires { ⌜ Neat (now state) × (name < 64) ⌝ }
-    ensures { λ r. ⌜ Reads (itemOf (namesOf (now (state .entry)) name) name i) r ⌝ }
+    ensures { λ r. ⌜ ReadsSingle (itemIn (namesOf (now (state .entry)) name) name i) r ⌝ }
 {
     let at = slot(name);
     let k = sifv::kind_at(state, at);
@@ -633,7 +633,7 @@ fn item(state: &[u8], name: usize, i: u64) -> Got
 
 fn loadarrv(state: &[u8], name: usize, idx: usize) -> Got
     requires { ⌜ Neat (now state) × (name < 64) × (idx < 96) ⌝ }
-    ensures { λ r. ⌜ Reads (Machine.full Rule.TyMismatch (regsOf (now (state .entry)) idx) (λ v. Operation.item (namesOf (now (state .entry))) name v)) r ⌝ }
+    ensures { λ r. ⌜ ReadsSingle (Operation.full Rule.TyMismatch (regsOf (now (state .entry)) idx) (λ v. Operation.arrayItem (namesOf (now (state .entry))) name v)) r ⌝ }
 {
     let at = reg(idx);
     if sifv::kind_at(state, at) != 1 {
@@ -665,7 +665,7 @@ fn update(state: &mut [u8], name: usize, i: u64, val: usize) -> Did
 
 fn newarrv(state: &mut [u8], name: usize, idx: usize, val: usize) -> Did
     requires { ⌜ Neat (now state) × (name < 64) × (idx < 96) × (val < 96) ⌝ }
-    ensures { λ r. ⌜ Named (now (state .entry)) (now (state .exit)) (Machine.full Rule.TyMismatch (regsOf (now (state .entry)) idx) (λ v. Machine.full Rule.TyMismatch (regsOf (now (state .entry)) val) (λ w. Operation.update (namesOf (now (state .entry))) name v w))) r ⌝ }
+    ensures { λ r. ⌜ Named (now (state .entry)) (now (state .exit)) (Operation.full Rule.TyMismatch (regsOf (now (state .entry)) idx) (λ v. Operation.full Rule.TyMismatch (regsOf (now (state .entry)) val) (λ w. Operation.update (namesOf (now (state .entry))) name v w))) r ⌝ }
 {
     let at = reg(idx);
     if sifv::kind_at(state, at) != 1 {
@@ -763,8 +763,8 @@ fn ret(state: &mut [u8], loc: Loc) -> Step
 // ---- jumps
 
 fn jump(program: &[u8], loc: Loc, lblidx: u64) -> Step
-    requires { ⌜ Ready (now program) (programOf (now program)) × (lblidx < 1024) ⌝ }
-    ensures { λ r. ⌜ r ≡ jumpedOf loc (labelAt (programOf (now (program .entry)) .code) lblidx) ⌝ }
+    requires { ⌜ ProgramReady (now program) (programIn (now program)) × (lblidx < 1024) ⌝ }
+    ensures { λ r. ⌜ r ≡ jumpedOf loc (labelAt (programIn (now (program .entry)) .code) lblidx) ⌝ }
 {
     let t = lent::get_u16(program, 32768 + lblidx as usize * 2) as usize;
     if t == 0 {
@@ -787,8 +787,8 @@ fn taken(kind: JmpOpKind, b: bool) -> bool
 }
 
 fn branch(program: &[u8], state: &[u8], loc: Loc, kind: JmpOpKind, src: usize, lblidx: u64) -> Step
-    requires { ⌜ Ready (now program) (programOf (now program)) × Neat (now state) × Holds (now state) (view (now state) loc) × (loc .pos ≤ 1024) × (src < 96) × (lblidx < 1024) ⌝ }
-    ensures { λ r. ⌜ Stepped (now (state .entry)) (now (state .entry)) (Machine.branch (view (now (state .entry)) loc) (jmpModel kind) (Machine.full Rule.TyMismatch (regsOf (now (state .entry)) src) (λ v. Operation.truth v)) (labelAt (programOf (now (program .entry)) .code) lblidx)) r ⌝ }
+    requires { ⌜ ProgramReady (now program) (programIn (now program)) × Neat (now state) × Holds (now state) (view (now state) loc) × (loc .pos ≤ 1024) × (src < 96) × (lblidx < 1024) ⌝ }
+    ensures { λ r. ⌜ Stepped (now (state .entry)) (now (state .entry)) (Machine.branch (view (now (state .entry)) loc) (jmpModel kind) (Operation.full Rule.TyMismatch (regsOf (now (state .entry)) src) (λ v. Operation.truth v)) (labelAt (programIn (now (program .entry)) .code) lblidx)) r ⌝ }
 {
     let at = reg(src);
     if sifv::kind_at(state, at) != 3 {
@@ -802,7 +802,7 @@ fn branch(program: &[u8], state: &[u8], loc: Loc, kind: JmpOpKind, src: usize, l
 
 fn declare(state: &mut [u8], loc: Loc, name: usize) -> Step
     requires { ⌜ Holds (now state) (view (now state) loc) × (loc .pos ≤ 1024) × (name < 64) ⌝ }
-    ensures { λ r. ⌜ Stepped (now (state .entry)) (now (state .exit)) (Machine.Goes (Machine.on (Machine.withFn (view (now (state .entry)) loc) name))) r ⌝ }
+    ensures { λ r. ⌜ Stepped (now (state .entry)) (now (state .exit)) (Machine.Goes (Machine.advance (Machine.withFn (view (now (state .entry)) loc) name))) r ⌝ }
 {
     lent::put_u16(state, 47200 + name * 2, (loc.pos + 1) as u64);
     Step::Goes(on(loc))
@@ -811,8 +811,8 @@ fn declare(state: &mut [u8], loc: Loc, name: usize) -> Step
 // ---- `execute`
 
 pub fn execute(program: &[u8], state: &mut [u8], loc: Loc) -> Step
-    requires { ⌜ Ready (now program) (programOf (now program)) × Canon (length (programOf (now program) .code)) (now state) loc × (loc .pos < length (programOf (now program) .code)) ⌝ }
-    ensures { λ r. ⌜ Stepped (now (state .entry)) (now (state .exit)) (Machine.step (programOf (now (program .entry))) (view (now (state .entry)) loc)) r ⌝ }
+    requires { ⌜ ProgramReady (now program) (programIn (now program)) × Canon (length (programIn (now program) .code)) (now state) loc × (loc .pos < length (programIn (now program) .code)) ⌝ }
+    ensures { λ r. ⌜ Stepped (now (state .entry)) (now (state .exit)) (Machine.step (programIn (now (program .entry))) (view (now (state .entry)) loc)) r ⌝ }
 {
     let op = opc::fetch(program, loc.pos);
     match op {

@@ -2,11 +2,11 @@
 ghost use mathlib.Core.Path.{_≡_};
 ghost use mathlib.Core.Bool.{true};
 ghost use Prim.Native.Nat.{_≤_, _<_};
-ghost use Rattle.sifv.specs.Seen.{kindIn, seen};
+ghost use Rattle.sifv.specs.inner.Seen.{kindIn, seen};
 ghost use Rattle.sifv.specs.Slot.{valueOk};
 ghost use Rattle.vm.specs.Operation as Operation;
-ghost use Rattle.execute.specs.View.{regsOf, namesOf, Named, Neat};
-ghost use Rattle.execute.specs.TableView.{Looked};
+ghost use Rattle.execute.specs.inner.View.{regsOf, namesOf, Named, Neat};
+ghost use Rattle.execute.specs.inner.TableView.{Looked};
 use crate::Did;
 
 // The value of a key into register dest; what is no table changes nothing.

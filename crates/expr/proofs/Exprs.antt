@@ -1,39 +1,39 @@
 -- Expressions: a section for each function. Assumes nothing.
-use Prim.Native.Nat.{ℕ, zero, suc, _+_, _-_, _*_, _^_, _≤_, _<_}
+use Prim.Native.Nat.{ℕ, suc, _+_, _^_, _≤_, _<_}
 use mathlib.Core.Path.{_≡_, refl, ap, sym, _∙_}
 use mathlib.Core.Bool.{Bool, true, false, cond}
 use mathlib.Core.List.{List, [], _∷_, _++_, append-assoc}
 use native.Mathlib.Omega.{arith}
 use mir.Facts.{and-yes}
-use lib.Dec.{T, eqb, ltb, ltb→lt}
+use lib.Dec.{eqb, ltb, ltb→lt}
 use lib.ListN.{length, length-append, length-drop, drop, getD}
-use Rattle.lent.specs.Bytes.{beValue, beBytes, part}
-use Rattle.lent.specs.Numbers.{beValue-beBytes}
+use Rattle.lent.specs.Bytes.{beValue, part}
+use Rattle.lent.specs.laws.Numbers.{beValue-beBytes}
 use Rattle.sifv.specs.Value.{One, Bl}
-use Rattle.opc.specs.Op.{Op, Ldc, Str, Binary, Unary, Upda, Call, FnStackPush, FnStackPop, Instr, instr}
-use Rattle.opc.specs.Record.{Fields, fields, fieldBytes, itemsOf, encodeInstr, binNumber, unNumber}
-use Rattle.ast.specs.Node.{Kind, numberOf, Node, node}
+use Rattle.opc.specs.Op.{Op, Ldc, Binary, Unary, Upda, Call, FnStackPush, FnStackPop, instr}
+use Rattle.opc.specs.Record.{Fields, fields, fieldBytes, binNumber, unNumber}
+use Rattle.ast.specs.Node.{Kind, Node, node}
 use Rattle.ast.specs.Tree.{BinTok, Plus, Minus, Star, Slash, Percent, EqEq, LtEq, Lt, GtEq, Gt, AmpAmp, PipePipe, BangEq, UnTok, Bang, Negate}
-use Rattle.ast.specs.Tree.{Lit, Val, Text, Truth, Expr, Literal, Name, BinaryExpr, UnaryExpr, VarAssign, ArrayMut, FnCall, Rhs, Exprs, noExprs, moreExprs}
+use Rattle.ast.specs.Tree.{Val, Text, Truth, Expr, Literal, Name, BinaryExpr, UnaryExpr, VarAssign, ArrayMut, FnCall, Rhs, Exprs, noExprs, moreExprs}
 use Rattle.ast.specs.Flat as Flat
 use Rattle.ast.specs.Flat.{flatExpr, flatExprs, flatRhs, exprCount, entryBytes, bodyBytes}
 use Rattle.ast.specs.Limits.{everyExpr, everyExprs}
-use Rattle.compiler.specs.Token.{literal, binKind, unKind}
-use Rattle.compiler.specs.Lower.{Place, Event, Reg, Push, Below, before, prev, push, load, argRegs, exprRegs, paramRegs, lowerArg, lowerExpr, lowerParams, lowerRhs}
-use Rattle.compiler.specs.Accepted.{regsIn}
+use Rattle.compiler.specs.Literals.{binKind, unKind}
+use Rattle.compiler.specs.Lower.{Place, Event, Below, askBelow, prev, push, load, argRegs, exprRegs, paramRegs, lowerArg, lowerExpr, lowerParams, lowerRhs}
+use Rattle.compiler.specs.laws.Accepted.{regsIn}
 use Rattle.emit.specs.declared.Low.{Low}
 use Rattle.emit.specs.declared.Done.{Done}
-use Rattle.emit.specs.Run.{kept, after, wrote, Ready, Did, PushesOp, Loads}
-use Rattle.emit.specs.Made.{Spells, Made, binCode, Part, At, Reads, Front, ReadsAt, Goes}
-use Rattle.emit.specs.Laws.{did-if, refused-stays, some-place}
-use Rattle.emit.specs.Spell.{entry-append, body-append, from, from-drop, in-node, fits-nodes, fits-bodies, first, second-from, first-kind, first-body}
-use Rattle.emit.specs.Regs.{regs-append, before-regs, arg-regs, expr-regs, param-regs}
-use Rattle.emit.specs.Places.{made-as, made-start, made-ready, made-kept, made-reg, made-push, made-load, made-reads, made-goes, goes-unrefused, at-from, reads-from, front-within, at-within}
-use Rattle.expr.specs.Parts.{exprs, args, operands, stored, rights, params}
+use Rattle.emit.specs.inner.Run.{kept, afterEvents, wrote, Ready, Did, PushesOp, Loads}
+use Rattle.emit.specs.inner.Made.{Spells, Made, binCode, Part, At, Reads, Front, ReadsAt, Goes}
+use Rattle.emit.specs.laws.Laws.{did-if, refused-stays, some-place}
+use Rattle.emit.specs.laws.Spell.{entry-append, body-append, from, in-node, fits-nodes, fits-bodies, first, second-from, first-body}
+use Rattle.emit.specs.laws.Regs.{regs-append, before-regs, arg-regs, expr-regs, param-regs}
+use Rattle.emit.specs.laws.Places.{made-as, made-start, made-ready, made-reg, made-push, made-load, made-reads, made-goes, goes-unrefused, at-from, reads-from, at-within}
+use Rattle.expr.specs.inner.Parts.{exprs, args, operands, storedParts, rights, paramParts}
 use Rattle.expr.proofs.Views.{EKind, kmut, kcall, kasg, kbin, kun, kval, ktext, kname, ktrue, kfalse, as-kind, of-kind, expr-room}
 use Rattle.expr.proofs.Views.{only-mut, only-call, only-asg, only-bin, only-un, only-val, only-text, only-name, only-true, only-false}
 
-bin-number : (t : BinTok) → binCode (Flat.binNumber t) ≡ binNumber (binKind t)
+bin-number : (t : BinTok) → binCode (Flat.binTokNumber t) ≡ binNumber (binKind t)
 bin-number Plus = refl
 bin-number Minus = refl
 bin-number Star = refl
@@ -48,7 +48,7 @@ bin-number AmpAmp = refl
 bin-number PipePipe = refl
 bin-number BangEq = refl
 
-un-number : (t : UnTok) → Flat.unNumber t ≡ unNumber (unKind t)
+un-number : (t : UnTok) → Flat.unTokNumber t ≡ unNumber (unKind t)
 un-number Bang = refl
 un-number Negate = refl
 
@@ -94,7 +94,7 @@ of-operand h = record { spells = h .spells; ok = h .ok }
 pub of-arg : {e : Expr} {c b : List ℕ} → At args e c b → At exprs e c b
 of-arg h = record { spells = h .spells; ok = h .ok }
 
-pub of-stored : {x : ℕ} {e : Expr} {c b : List ℕ} → At (stored x) e c b → At exprs e c b
+pub of-stored : {x : ℕ} {e : Expr} {c b : List ℕ} → At (storedParts x) e c b → At exprs e c b
 of-stored h = record { spells = h .spells; ok = h .ok }
 
 -- ---- a child at u and v, from the start
@@ -117,7 +117,7 @@ module _ {X : Type 0} (P : Part X) (t : X) (u v : ℕ) (c b : List ℕ) (a : At 
 arg-takes : (e : Expr) (w : Place) (n r : ℕ) → r + argRegs e (exprRegs e) ≡ r + regsIn (operands .emits e w n r)
 arg-takes e w n r =
     let q = r + argRegs e (exprRegs e) in
-    omega (arith, regs-append (lowerArg w n e r (lowerExpr e w n r)) (before q), before-regs q, arg-regs e w n r (expr-regs e w n r))
+    omega (arith, regs-append (lowerArg w n e r (lowerExpr e w n r)) (askBelow q), before-regs q, arg-regs e w n r (expr-regs e w n r))
 
 module _ {t : UnTok} {x : Expr} {c b : List ℕ} (h : At exprs (UnaryExpr t x) c b) where
   pub un-room : 2 + E x ≤ length c
@@ -146,7 +146,7 @@ module _ {t : UnTok} {x : Expr} {c b : List ℕ} (h : At exprs (UnaryExpr t x) c
           let o : ℕ → Op = λ z. Unary (unKind t) (prev z) z in
           let m₂ = made-load m w kw (instr n (o (r₁ .low .reg))) (instr n (o q)) l refl (ap fieldBytes (rw (first-body (h .spells), un-number t) at ef))
           (λ z. ap (λ (i : ℕ). instr n (o i)) (made-reg m q (arg-takes x w n (s .reg)) z)) in
-          made-as (append-assoc A (before q) (load w n (o q))) (omega arith) (omega arith) refl m₂
+          made-as (append-assoc A (askBelow q) (load w n (o q))) (omega arith) (omega arith) refl m₂
 
 -- ---- Binary
 
@@ -201,13 +201,13 @@ module _ {t : BinTok} {x y : Expr} {c b : List ℕ} (h : At exprs (BinaryExpr t 
             let m₃ = made-load m₂ w kw (instr n (o (r₁ .low .reg) (r₂ .low .reg))) (instr n (o q p)) l refl (ap fieldBytes (rw (first-body (h .spells), bin-number t) at ef))
             (λ z. rw (is-q z, is-p z)) in
             made-as
-            (append-assoc (A ++ before q) (C ++ before p) (load w n (o q p)) ∙ append-assoc A (before q) ((C ++ before p) ++ load w n (o q p))
-            ∙ ap (λ (l : List Event). A ++ (before q ++ l)) (append-assoc C (before p) (load w n (o q p))))
+            (append-assoc (A ++ askBelow q) (C ++ askBelow p) (load w n (o q p)) ∙ append-assoc A (askBelow q) ((C ++ askBelow p) ++ load w n (o q p))
+            ∙ ap (λ (l : List Event). A ++ (askBelow q ++ l)) (append-assoc C (askBelow p) (load w n (o q p))))
             (omega (arith, both-nodes (flatExpr x) (flatExpr y))) (omega (arith, both-bodies (flatExpr x) (flatExpr y))) refl m₃
 
 -- ---- the register before
 
-before-wrote : (z : ℕ) (s : Low) (buf : List ℕ) → wrote (before z) s buf ≡ buf
+before-wrote : (z : ℕ) (s : Low) (buf : List ℕ) → wrote (askBelow z) s buf ≡ buf
 before-wrote z s buf = by-test (eqb z 0)
   where
     by-test : (t : Bool) → wrote (cond t (Below ∷ []) []) s buf ≡ buf
@@ -215,14 +215,14 @@ before-wrote z s buf = by-test (eqb z 0)
     by-test false = refl
 
 made-below : {es : List Event} {u v l : ℕ} {s : Low} {buf : List ℕ} {d : Done} {buf₁ : List ℕ} → Made es u v l s buf d buf₁ → (q : ℕ) → q ≡ s .reg + regsIn es
-    → {x y m : ℕ} {p : Done} → p ≡ record { cont = x; body = y; lbl = m; low = after (before (d .low .reg)) (d .low) } → Made (es ++ before q) x y m s buf p buf₁
+    → {x y m : ℕ} {p : Done} → p ≡ record { cont = x; body = y; lbl = m; low = afterEvents (askBelow (d .low .reg)) (d .low) } → Made (es ++ askBelow q) x y m s buf p buf₁
 made-below {d = d} {buf₁ = buf₁} m q f e =
-    let g : Did (before (d .low .reg)) (d .low) buf₁ (after (before (d .low .reg)) (d .low)) buf₁ = record { state = refl; buffer = sym (before-wrote (d .low .reg) (d .low) buf₁) } in
-    rw e (record { cont = refl; body = refl; lbl = refl; did = did-if (m .did) (λ z. ap before (made-reg m q f z)) g })
+    let g : Did (askBelow (d .low .reg)) (d .low) buf₁ (afterEvents (askBelow (d .low .reg)) (d .low)) buf₁ = record { state = refl; buffer = sym (before-wrote (d .low .reg) (d .low) buf₁) } in
+    rw e (record { cont = refl; body = refl; lbl = refl; did = did-if (m .did) (λ z. ap askBelow (made-reg m q f z)) g })
 
 -- `binarg` at a place
 pub operand-goes : (c b : List ℕ) (k : Bool) (p : Done) (buf : List ℕ) {r q : Done} {buf′ : List ℕ} → Front args (from (p .cont) c) (from (p .body) b) k (p .lbl) (p .low) buf r buf′
-    → q ≡ record { cont = p .cont + r .cont; body = p .body + r .body; lbl = r .lbl; low = after (before (r .low .reg)) (r .low) } → Goes operands c b k p buf q buf′
+    → q ≡ record { cont = p .cont + r .cont; body = p .body + r .body; lbl = r .lbl; low = afterEvents (askBelow (r .low .reg)) (r .low) } → Goes operands c b k p buf q buf′
 operand-goes c b k p buf {r} {q} {buf′} f e = record {
   goes = λ t h w kw.
       let m = f .front t (as-arg (at-from exprs t (p .cont) (p .body) c b (of-operand h))) w kw in
@@ -270,21 +270,21 @@ module _ {x : ℕ} {i v : Expr} {c b : List ℕ} (h : At exprs (ArrayMut x i v) 
       mut-made₁ : (w : Place) → k ≡ kept (s .decls) (w .section) → Made (lowerExpr v w n (s .reg)) (2 + E i + E v) (1 + B i + B v) n s buf r₁ buf₁
       mut-made₁ = child-made exprs v (2 + E i) (1 + B i) c b mut-value (omega (arith, mut-room)) (omega (arith, mut-roomb)) rdy mut-start g₁
 
-      module _ {l : Low} (el : l ≡ after (before (r₁ .low .reg)) (r₁ .low)) {p₂ : Done} (e₂ : p₂ ≡ record { cont = 2; body = 1; lbl = n; low = l }) where
-        mut-made₂ : (w : Place) → k ≡ kept (s .decls) (w .section) → Made (lowerExpr v w n (s .reg) ++ before (s .reg + exprRegs v)) 2 1 n s buf p₂ buf₁
+      module _ {l : Low} (el : l ≡ afterEvents (askBelow (r₁ .low .reg)) (r₁ .low)) {p₂ : Done} (e₂ : p₂ ≡ record { cont = 2; body = 1; lbl = n; low = l }) where
+        mut-made₂ : (w : Place) → k ≡ kept (s .decls) (w .section) → Made (lowerExpr v w n (s .reg) ++ askBelow (s .reg + exprRegs v)) 2 1 n s buf p₂ buf₁
         mut-made₂ w kw = made-below (mut-made₁ w kw) (s .reg + exprRegs v) (ap (λ (j : ℕ). s .reg + j) (sym (expr-regs v w n (s .reg)))) (rw el at e₂)
 
         pub mut-reads₂ : ReadsAt exprs c b p₂ buf₁
         mut-reads₂ = let w = some-place k (s .decls) in made-reads (mut-made₂ (w .0) (w .1)) exprs i c b mut-index rdy (omega (arith, mut-room)) (omega (arith, mut-roomb))
 
         module _ {r₃ : Done} {buf₃ : List ℕ} (g₃ : Goes exprs c b k p₂ buf₁ r₃ buf₃) where
-          mut-takes : (w : Place) → s .reg + exprRegs v ≡ s .reg + regsIn (lowerExpr v w n (s .reg) ++ before (s .reg + exprRegs v))
+          mut-takes : (w : Place) → s .reg + exprRegs v ≡ s .reg + regsIn (lowerExpr v w n (s .reg) ++ askBelow (s .reg + exprRegs v))
           mut-takes w =
               let q = s .reg + exprRegs v in
-              omega (arith, regs-append (lowerExpr v w n (s .reg)) (before q), before-regs q, expr-regs v w n (s .reg))
+              omega (arith, regs-append (lowerExpr v w n (s .reg)) (askBelow q), before-regs q, expr-regs v w n (s .reg))
 
           mut-made₃ : (w : Place) → k ≡ kept (s .decls) (w .section)
-              → Made ((lowerExpr v w n (s .reg) ++ before (s .reg + exprRegs v)) ++ lowerExpr i w n (s .reg + exprRegs v)) (2 + E i) (1 + B i) n s buf r₃ buf₃
+              → Made ((lowerExpr v w n (s .reg) ++ askBelow (s .reg + exprRegs v)) ++ lowerExpr i w n (s .reg + exprRegs v)) (2 + E i) (1 + B i) n s buf r₃ buf₃
           mut-made₃ w kw = made-goes (mut-made₂ w kw) exprs i c b mut-index g₃ w kw (s .reg + exprRegs v) (mut-takes w)
 
           pub mut-ready₃ : Ready (r₃ .low) buf₃
@@ -305,8 +305,8 @@ module _ {x : ℕ} {i v : Expr} {c b : List ℕ} (h : At exprs (ArrayMut x i v) 
               let un₂ : r₃ .low .refused ≡ 0 → p₂ .low .refused ≡ 0 = λ z. goes-unrefused m₂ exprs i c b mut-index g₃ w kw z in
               let is-q : r₃ .low .refused ≡ 0 → r₁ .low .reg ≡ q = λ z. made-reg m₁ q (ap (λ (j : ℕ). s .reg + j) (sym (expr-regs v w n (s .reg)))) (below-unrefused r₁ (rw (e₂, el) at (un₂ z))) in
               let is-p : r₃ .low .refused ≡ 0 → r₃ .low .reg ≡ p =
-              λ z. made-reg m₃ p (omega (arith, mut-takes w, expr-regs i w n q, regs-append (Z ++ before q) I)) z in
-              let m₄ : Made (((Z ++ before q) ++ I) ++ (push w n (o p q) ∷ [])) (2 + E i) (1 + B i) n s buf r₄ buf₄ =
+              λ z. made-reg m₃ p (omega (arith, mut-takes w, expr-regs i w n q, regs-append (Z ++ askBelow q) I)) z in
+              let m₄ : Made (((Z ++ askBelow q) ++ I) ++ (push w n (o p q) ∷ [])) (2 + E i) (1 + B i) n s buf r₄ buf₄ =
               made-push m₃ w kw (instr n (o (r₃ .low .reg) (r₁ .low .reg))) (instr n (o p q)) (refl, refl, refl, l) refl (ap fieldBytes (rw (first-body (h .spells)) at ef))
               (λ z. rw (is-p z, is-q z)) in
               rw ed (record {
@@ -314,11 +314,11 @@ module _ {x : ℕ} {i v : Expr} {c b : List ℕ} (h : At exprs (ArrayMut x i v) 
                 body = m₁ .body ∙ omega (arith, both-bodies (flatExpr i) (flatExpr v));
                 lbl = m₁ .lbl;
                 did = made-as {u = 2 + E i} {v = 1 + B i} {l = n}
-                    (append-assoc (Z ++ before q) I (push w n (o p q) ∷ []) ∙ append-assoc Z (before q) (I ++ (push w n (o p q) ∷ []))) refl refl refl m₄ .did;
+                    (append-assoc (Z ++ askBelow q) I (push w n (o p q) ∷ []) ∙ append-assoc Z (askBelow q) (I ++ (push w n (o p q) ∷ []))) refl refl refl m₄ .did;
               })
             where
-              below-unrefused : (d : Done) → after (before (d .low .reg)) (d .low) .refused ≡ 0 → d .low .refused ≡ 0
-              below-unrefused d z = refused-stays (before (d .low .reg)) (d .low) z
+              below-unrefused : (d : Done) → afterEvents (askBelow (d .low .reg)) (d .low) .refused ≡ 0 → d .low .refused ≡ 0
+              below-unrefused d z = refused-stays (askBelow (d .low .reg)) (d .low) z
 
 -- ---- Call
 
@@ -339,16 +339,16 @@ first-is-none : {m : ℕ} (ps : Exprs) → m ≡ exprCount ps → m ≡ 0 → ps
 first-is-none noExprs e z = refl
 first-is-none (moreExprs e ps) f z = absurd (omega (arith, f, z))
 
-pub params-none : {m : ℕ} {c b : List ℕ} {k : Bool} {p : Done} {buf : List ℕ} → m ≡ 0 → Goes (params m) c b k p buf p buf
+pub params-none : {m : ℕ} {c b : List ℕ} {k : Bool} {p : Done} {buf : List ℕ} → m ≡ 0 → Goes (paramParts m) c b k p buf p buf
 params-none z = record {
   goes = λ ps h w kw. rw (first-is-none ps (h .ok .0) z) (record { cont = omega arith; body = omega arith; lbl = refl; did = record { state = refl; buffer = refl } });
 }
 
-module _ {m : ℕ} {e : Expr} {ps : Exprs} (u v : ℕ) (c b : List ℕ) (h : At (params m) (moreExprs e ps) (drop u c) (drop v b)) where
+module _ {m : ℕ} {e : Expr} {ps : Exprs} (u v : ℕ) (c b : List ℕ) (h : At (paramParts m) (moreExprs e ps) (drop u c) (drop v b)) where
   pub par-first : At exprs e (drop u c) (drop v b)
   par-first = record { spells = first (flatExpr e) (flatExprs ps) (h .spells); ok = and-yes (fit e) (fits ps) (h .ok .1) .0 }
 
-  par-rest : {k : ℕ} → m ≡ suc k → At (params k) ps (drop (u + E e) c) (drop (v + B e) b)
+  par-rest : {k : ℕ} → m ≡ suc k → At (paramParts k) ps (drop (u + E e) c) (drop (v + B e) b)
   par-rest {k} f = record { spells = second-from (flatExpr e) (flatExprs ps) u v c b (h .spells); ok = (omega (arith, f, h .ok .0), and-yes (fit e) (fits ps) (h .ok .1) .1) }
 
   par-room : u ≤ length c → u + E e ≤ length c
@@ -357,10 +357,10 @@ module _ {m : ℕ} {e : Expr} {ps : Exprs} (u v : ℕ) (c b : List ℕ) (h : At 
   par-roomb : v ≤ length b → v + B e ≤ length b
   par-roomb j = omega (arith, fits-bodies (par-first .spells), length-drop v b, j)
 
-pub par-reads : {m : ℕ} {c b : List ℕ} {p : Done} {buf : List ℕ} → (m ≡ 0 → ⊥) → ReadsAt (params m) c b p buf → ReadsAt exprs c b p buf
+pub par-reads : {m : ℕ} {c b : List ℕ} {p : Done} {buf : List ℕ} → (m ≡ 0 → ⊥) → ReadsAt (paramParts m) c b p buf → ReadsAt exprs c b p buf
 par-reads {m} {c} {b} {p} {buf} z h = by (h .tree) (h .spelt)
   where
-    by : (ps : Exprs) → At (params m) ps (drop (p .cont) c) (drop (p .body) b) → ReadsAt exprs c b p buf
+    by : (ps : Exprs) → At (paramParts m) ps (drop (p .cont) c) (drop (p .body) b) → ReadsAt exprs c b p buf
     by noExprs a = absurd (z (a .ok .0))
     by (moreExprs e ps) a = record { ready = h .ready; cont = h .cont; body = h .body; tree = e; spelt = par-first (p .cont) (p .body) c b a }
 
@@ -368,7 +368,7 @@ par-reads {m} {c} {b} {p} {buf} z h = by (h .tree) (h .spelt)
 pub made-here : {p : Done} {buf : List ℕ} → Made [] (p .cont) (p .body) (p .lbl) (p .low) buf p buf
 made-here = record { cont = refl; body = refl; lbl = refl; did = record { state = refl; buffer = refl } }
 
-pub par-ready : {m : ℕ} {c b : List ℕ} {k : Bool} {p : Done} {buf : List ℕ} {r₁ : Done} {buf₁ : List ℕ} → Goes exprs c b k p buf r₁ buf₁ → (m ≡ 0 → ⊥) → ReadsAt (params m) c b p buf → Ready (r₁ .low) buf₁
+pub par-ready : {m : ℕ} {c b : List ℕ} {k : Bool} {p : Done} {buf : List ℕ} {r₁ : Done} {buf₁ : List ℕ} → Goes exprs c b k p buf r₁ buf₁ → (m ≡ 0 → ⊥) → ReadsAt (paramParts m) c b p buf → Ready (r₁ .low) buf₁
 par-ready {k = k} {p = p} g z r =
     let q = par-reads z r in
     let w = some-place k (p .low .decls) in
@@ -378,7 +378,7 @@ par-ready {k = k} {p = p} g z r =
 module _ {m : ℕ} {c b : List ℕ} {k : Bool} {p : Done} {buf : List ℕ} {r₁ : Done} {buf₁ : List ℕ} (g₁ : Goes exprs c b k p buf r₁ buf₁)
     {f : Fields} {r₂ : Done} {buf₂ : List ℕ} (ef : f ≡ fields (p .lbl) 19 0 (prev (r₁ .low .reg)) 0 0 0 0)
     (l : (r₂ .cont ≡ r₁ .cont) × (r₂ .body ≡ r₁ .body) × (r₂ .lbl ≡ r₁ .lbl) × PushesOp k (r₁ .low) (fieldBytes f) buf₁ (r₂ .low) buf₂) where
-  module _ {e : Expr} {ps : Exprs} (h : At (params m) (moreExprs e ps) (drop (p .cont) c) (drop (p .body) b)) (w : Place) (kw : k ≡ kept (p .low .decls) (w .section)) where
+  module _ {e : Expr} {ps : Exprs} (h : At (paramParts m) (moreExprs e ps) (drop (p .cont) c) (drop (p .body) b)) (w : Place) (kw : k ≡ kept (p .low .decls) (w .section)) where
     par-made₁ : Made (lowerExpr e w (p .lbl) (p .low .reg)) (p .cont + E e) (p .body + B e) (p .lbl) (p .low) buf r₁ buf₁
     par-made₁ = made-goes made-here exprs e c b (par-first (p .cont) (p .body) c b h) g₁ w kw (p .low .reg) (omega arith)
 
@@ -390,20 +390,20 @@ module _ {m : ℕ} {c b : List ℕ} {k : Bool} {p : Done} {buf : List ℕ} {r₁
         made-push par-made₁ w kw (instr (p .lbl) (FnStackPush (prev (r₁ .low .reg)))) (instr (p .lbl) (FnStackPush (prev (p .low .reg + exprRegs e)))) l refl (ap fieldBytes ef)
         (λ z. ap (λ (i : ℕ). instr (p .lbl) (FnStackPush (prev i))) (made-reg par-made₁ (p .low .reg + exprRegs e) par-q z))
 
-  par-rest-reads : {j : ℕ} (ps : Exprs) → m ≡ suc j → ReadsAt (params m) c b p buf → At (params m) ps (drop (p .cont) c) (drop (p .body) b) → (p .cont < r₂ .cont) × ReadsAt (params j) c b r₂ buf₂
+  par-rest-reads : {j : ℕ} (ps : Exprs) → m ≡ suc j → ReadsAt (paramParts m) c b p buf → At (paramParts m) ps (drop (p .cont) c) (drop (p .body) b) → (p .cont < r₂ .cont) × ReadsAt (paramParts j) c b r₂ buf₂
   par-rest-reads noExprs z r a = absurd (omega (arith, z, a .ok .0))
   par-rest-reads (moreExprs e ps) z r a =
       let w = some-place k (p .low .decls) in
       let m₂ = par-made₂ a (w .0) (w .1) in
-      (omega (arith, m₂ .cont, expr-size e), made-reads m₂ (params _) ps c b (par-rest (p .cont) (p .body) c b a z) (r .ready) (par-room (p .cont) (p .body) c b a (r .cont)) (par-roomb (p .cont) (p .body) c b a (r .body)))
+      (omega (arith, m₂ .cont, expr-size e), made-reads m₂ (paramParts _) ps c b (par-rest (p .cont) (p .body) c b a z) (r .ready) (par-room (p .cont) (p .body) c b a (r .cont)) (par-roomb (p .cont) (p .body) c b a (r .body)))
 
-  pub par-next : {j : ℕ} → m ≡ suc j → ReadsAt (params m) c b p buf → (p .cont < r₂ .cont) × ReadsAt (params j) c b r₂ buf₂
+  pub par-next : {j : ℕ} → m ≡ suc j → ReadsAt (paramParts m) c b p buf → (p .cont < r₂ .cont) × ReadsAt (paramParts j) c b r₂ buf₂
   par-next z r = par-rest-reads (r .tree) z r (r .spelt)
 
-  pub par-goes : {j : ℕ} {r₃ : Done} {buf₃ : List ℕ} → m ≡ suc j → Goes (params j) c b k r₂ buf₂ r₃ buf₃ → Goes (params m) c b k p buf r₃ buf₃
+  pub par-goes : {j : ℕ} {r₃ : Done} {buf₃ : List ℕ} → m ≡ suc j → Goes (paramParts j) c b k r₂ buf₂ r₃ buf₃ → Goes (paramParts m) c b k p buf r₃ buf₃
   par-goes {j} {r₃} {buf₃} z g = record { goes = by }
     where
-      by : (ps : Exprs) → At (params m) ps (drop (p .cont) c) (drop (p .body) b) → (w : Place) → k ≡ kept (p .low .decls) (w .section)
+      by : (ps : Exprs) → At (paramParts m) ps (drop (p .cont) c) (drop (p .body) b) → (w : Place) → k ≡ kept (p .low .decls) (w .section)
           → Made (lowerParams ps w (p .lbl) (p .low .reg)) (p .cont + length (entryBytes (flatExprs ps))) (p .body + length (bodyBytes (flatExprs ps))) (p .lbl) (p .low) buf r₃ buf₃
       by noExprs a w kw = absurd (omega (arith, z, a .ok .0))
       by (moreExprs e ps) a w kw =
@@ -412,7 +412,7 @@ module _ {m : ℕ} {c b : List ℕ} {k : Bool} {p : Done} {buf : List ℕ} {r₁
           let o = push w (p .lbl) (FnStackPush (prev q)) ∷ [] in
           made-as (append-assoc X o (lowerParams ps w (p .lbl) q))
           (omega (arith, both-nodes (flatExpr e) (flatExprs ps))) (omega (arith, both-bodies (flatExpr e) (flatExprs ps))) refl
-          (made-goes (par-made₂ a w kw) (params j) ps c b (par-rest (p .cont) (p .body) c b a z) g w kw q (par-q a w kw ∙ omega (arith, regs-append X o)))
+          (made-goes (par-made₂ a w kw) (paramParts j) ps c b (par-rest (p .cont) (p .body) c b a z) g w kw q (par-q a w kw ∙ omega (arith, regs-append X o)))
 
 module _ {g : ℕ} {ps : Exprs} {c b : List ℕ} (h : At exprs (FnCall g ps) c b) where
   pub call-room : 2 + length (entryBytes (flatExprs ps)) ≤ length c
@@ -421,23 +421,23 @@ module _ {g : ℕ} {ps : Exprs} {c b : List ℕ} (h : At exprs (FnCall g ps) c b
   pub call-roomb : 1 + length (bodyBytes (flatExprs ps)) ≤ length b
   call-roomb = omega (arith, fits-bodies (h .spells))
 
-  call-child : At (params (getD c 1 0)) ps (drop 2 c) (drop 1 b)
+  call-child : At (paramParts (getD c 1 0)) ps (drop 2 c) (drop 1 b)
   call-child = record { spells = in-node (h .spells); ok = (first-count (h .spells), h .ok) }
 
   module _ {n : ℕ} {s : Low} {buf : List ℕ} (rdy : Ready s buf) {p₀ : Done} (e₀ : p₀ ≡ record { cont = 2; body = 1; lbl = n; low = s }) where
-    pub call-reads : ReadsAt (params (getD c 1 0)) c b p₀ buf
-    call-reads = child-reads (params (getD c 1 0)) ps 2 1 c b call-child (omega (arith, call-room)) (omega (arith, call-roomb)) rdy e₀
+    pub call-reads : ReadsAt (paramParts (getD c 1 0)) c b p₀ buf
+    call-reads = child-reads (paramParts (getD c 1 0)) ps 2 1 c b call-child (omega (arith, call-room)) (omega (arith, call-roomb)) rdy e₀
 
-    module _ {k : Bool} {r₁ : Done} {buf₁ : List ℕ} (a : Goes (params (getD c 1 0)) c b k p₀ buf r₁ buf₁) where
+    module _ {k : Bool} {r₁ : Done} {buf₁ : List ℕ} (a : Goes (paramParts (getD c 1 0)) c b k p₀ buf r₁ buf₁) where
       pub call-ready₁ : Ready (r₁ .low) buf₁
-      call-ready₁ = child-ready (params (getD c 1 0)) ps 2 1 c b call-child (omega (arith, call-room)) (omega (arith, call-roomb)) rdy e₀ a
+      call-ready₁ = child-ready (paramParts (getD c 1 0)) ps 2 1 c b call-child (omega (arith, call-room)) (omega (arith, call-roomb)) rdy e₀ a
 
       module _ {f : Fields} {word : ℕ} (ew : word ≡ getD c 1 0) (ef : f ≡ fields n 17 0 (getD b 0 0) 0 0 0 word) {r₂ : Done} {buf₂ : List ℕ}
           (l : (r₂ .cont ≡ r₁ .cont) × (r₂ .body ≡ r₁ .body) × (r₂ .lbl ≡ r₁ .lbl) × PushesOp k (r₁ .low) (fieldBytes f) buf₁ (r₂ .low) buf₂) where
         call-made₂ : (w : Place) → k ≡ kept (s .decls) (w .section)
             → Made (lowerParams ps w n (s .reg) ++ (push w n (Call g (exprCount ps)) ∷ [])) (2 + length (entryBytes (flatExprs ps))) (1 + length (bodyBytes (flatExprs ps))) n s buf r₂ buf₂
         call-made₂ w kw =
-            made-push (child-made (params (getD c 1 0)) ps 2 1 c b call-child (omega (arith, call-room)) (omega (arith, call-roomb)) rdy e₀ a w kw) w kw
+            made-push (child-made (paramParts (getD c 1 0)) ps 2 1 c b call-child (omega (arith, call-room)) (omega (arith, call-roomb)) rdy e₀ a w kw) w kw
             (instr n (Call g (exprCount ps))) (instr n (Call g (exprCount ps))) l refl (ap fieldBytes (rw (first-body (h .spells), ew ∙ first-count (h .spells)) at ef)) (λ z. refl)
 
         pub call-ready₂ : Ready (r₂ .low) buf₂

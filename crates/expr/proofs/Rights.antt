@@ -1,36 +1,36 @@
 -- Right sides: a section for each function. Assumes nothing.
-use Prim.Native.Nat.{ℕ, zero, suc, _+_, _-_, _*_, _^_, _≤_, _<_}
+use Prim.Native.Nat.{ℕ, suc, _+_, _^_, _≤_, _<_}
 use mathlib.Core.Path.{_≡_, refl, ap, sym, _∙_}
-use mathlib.Core.Bool.{Bool, true, false, cond}
+use mathlib.Core.Bool.{Bool, true, false}
 use mathlib.Core.List.{List, [], _∷_, _++_, append-assoc}
 use native.Mathlib.Omega.{arith}
 use mir.Facts.{and-yes}
-use lib.Dec.{T, eqb, ltb}
-use lib.ListN.{length, length-append, length-drop, drop, getD}
+use lib.Dec.{ltb}
+use lib.ListN.{length, length-drop, drop, getD}
 use lib.Seq.{drop-drop, getD-drop}
 use Rattle.lent.specs.Bytes.{beValue, part}
 use Rattle.sifv.specs.Value.{One, Bl, Tab}
-use Rattle.opc.specs.Op.{Op, Stc, Stn, Str, Ldav, Tbli, Instr, instr}
-use Rattle.opc.specs.Record.{Fields, fields, fieldBytes, itemsOf, encodeInstr}
-use Rattle.ast.specs.Tree.{Lit, Val, Text, Truth, Expr, Literal, Name, Rhs, Expression, Table, Array, ArrayAccess, Items, noItems, moreItems}
+use Rattle.opc.specs.Op.{Op, Stc, Stn, Str, Ldav, Tbli, instr}
+use Rattle.opc.specs.Record.{Fields, fields, fieldBytes}
+use Rattle.ast.specs.Tree.{Lit, Val, Text, Expr, Expression, Table, Array, ArrayAccess, Items, noItems, moreItems}
 use Rattle.ast.specs.Structure.{itemCount}
-use Rattle.ast.specs.Flat.{flatExpr, flatRhs, flatItems, entryBytes, bodyBytes}
+use Rattle.ast.specs.Flat.{flatExpr, flatItems, entryBytes, bodyBytes}
 use Rattle.ast.specs.Limits.{everyExpr, everyItems}
-use Rattle.compiler.specs.Token.{literal}
-use Rattle.compiler.specs.Lower.{Place, Event, Reg, Push, prev, push, load, exprRegs, itemRegs, lowerExpr, lowerRhs, lowerItems}
-use Rattle.compiler.specs.Accepted.{regsIn}
+use Rattle.compiler.specs.Literals.{literal}
+use Rattle.compiler.specs.Lower.{Place, prev, push, exprRegs, lowerExpr, lowerItems}
+use Rattle.compiler.specs.laws.Accepted.{regsIn}
 use Rattle.emit.specs.declared.Low.{Low}
 use Rattle.emit.specs.declared.Done.{Done}
-use Rattle.emit.specs.Run.{kept, Ready, Did, PushesOp, Loads}
-use Rattle.emit.specs.Made.{Spells, Made, Part, At, Reads, Front, ReadsAt, Goes}
-use Rattle.emit.specs.Laws.{some-place}
-use Rattle.emit.specs.Spell.{in-node, fits-nodes, fits-bodies, first, second-from, first-body}
-use Rattle.emit.specs.Regs.{regs-append, expr-regs}
-use Rattle.emit.specs.Places.{made-as, made-start, made-ready, made-reg, made-push, made-load, made-reads, made-goes}
-use Rattle.expr.specs.Parts.{exprs, stored, rights, items}
-use Rattle.expr.proofs.Views.{EKind, kmut, kcall, kasg, kbin, kun, kval, ktext, kname, ktrue, kfalse, RKind, as-right, of-right, right-room}
+use Rattle.emit.specs.inner.Run.{kept, Ready, PushesOp, Loads}
+use Rattle.emit.specs.inner.Made.{Spells, Made, Part, At, Reads, Front, ReadsAt, Goes}
+use Rattle.emit.specs.laws.Laws.{some-place}
+use Rattle.emit.specs.laws.Spell.{in-node, fits-nodes, fits-bodies, first, second-from, first-body}
+use Rattle.emit.specs.laws.Regs.{regs-append, expr-regs}
+use Rattle.emit.specs.laws.Places.{made-as, made-start, made-ready, made-reg, made-push, made-load, made-reads, made-goes}
+use Rattle.expr.specs.inner.Parts.{exprs, storedParts, rights, itemParts}
+use Rattle.expr.proofs.Views.{EKind, kmut, kcall, kasg, kbin, kun, kval, ktext, kname, ktrue, kfalse, as-right, of-right, right-room}
 use Rattle.expr.proofs.Views.{only-val, only-text, only-name, only-tab, only-arr, only-acc, only-exp, only-rest}
-use Rattle.expr.proofs.Exprs.{E, B, Makes, first-count, both-nodes, both-bodies, expr-size, of-stored, child-reads, child-made, child-ready, num-read}
+use Rattle.expr.proofs.Exprs.{E, B, Makes, first-count, both-nodes, both-bodies, of-stored, child-reads, child-made, child-ready, num-read}
 
 abbrev fit : Expr → Bool
 fit e = everyExpr (λ x. true) (λ v. ltb v (2 ^ 64)) e
@@ -45,7 +45,7 @@ front-ready P {k = k} {s = s} r f = let w = some-place k (s .decls) in made-read
 
 pub str-front : {c b : List ℕ} {k : Bool} {n : ℕ} {s : Low} {buf : List ℕ} {a : Done} {buf₁ : List ℕ} → Front exprs c b k n s buf a buf₁
     → {g : Fields} {x : ℕ} {r : Done} {buf₂ : List ℕ} → g ≡ fields n 11 0 (prev (a .low .reg)) x 0 0 0
-    → (r .cont ≡ a .cont) × (r .body ≡ a .body) × (r .lbl ≡ a .lbl) × PushesOp k (a .low) (fieldBytes g) buf₁ (r .low) buf₂ → Front (stored x) c b k n s buf r buf₂
+    → (r .cont ≡ a .cont) × (r .body ≡ a .body) × (r .lbl ≡ a .lbl) × PushesOp k (a .low) (fieldBytes g) buf₁ (r .low) buf₂ → Front (storedParts x) c b k n s buf r buf₂
 str-front {n = n} {s = s} {a = a} f {x = x} eg l = record {
   front = λ e h w kw.
       let m = f .front e (of-stored h) w kw in
@@ -90,7 +90,7 @@ module _ {x : ℕ} {is : Items} {c b : List ℕ} (h : At (rights x) (Table is) c
   pub tab-room : 2 + length (entryBytes (flatItems is)) ≤ length c
   tab-room = omega (arith, fits-nodes (h .spells))
 
-  tab-child : At (items (getD c 1 0) x) is (drop 2 c) (drop 0 b)
+  tab-child : At (itemParts (getD c 1 0) x) is (drop 2 c) (drop 0 b)
   tab-child = record { spells = in-node (h .spells); ok = (first-count (h .spells), h .ok) }
 
   module _ {n : ℕ} {s : Low} {buf : List ℕ} (rdy : Ready s buf) {p₀ : Done} (e₀ : p₀ ≡ record { cont = 2; body = 0; lbl = n; low = s })
@@ -102,12 +102,12 @@ module _ {x : ℕ} {is : Items} {c b : List ℕ} (h : At (rights x) (Table is) c
     pub tab-cont : r₁ .cont ≡ 2
     tab-cont = l .0 ∙ ap (λ (d : Done). d .cont) e₀
 
-    pub tab-reads : ReadsAt (items (getD c 1 0) x) c b r₁ buf₁
-    tab-reads = let w = some-place k (s .decls) in made-reads (tab-made₁ (w .0) (w .1)) (items (getD c 1 0) x) is c b tab-child rdy (omega (arith, tab-room)) (omega arith)
+    pub tab-reads : ReadsAt (itemParts (getD c 1 0) x) c b r₁ buf₁
+    tab-reads = let w = some-place k (s .decls) in made-reads (tab-made₁ (w .0) (w .1)) (itemParts (getD c 1 0) x) is c b tab-child rdy (omega (arith, tab-room)) (omega arith)
 
-    pub tab-made : {r₂ : Done} {buf₂ : List ℕ} → Goes (items (getD c 1 0) x) c b k r₁ buf₁ r₂ buf₂ → Makes (rights x) (Table is) k n s buf r₂ buf₂
+    pub tab-made : {r₂ : Done} {buf₂ : List ℕ} → Goes (itemParts (getD c 1 0) x) c b k r₁ buf₁ r₂ buf₂ → Makes (rights x) (Table is) k n s buf r₂ buf₂
     tab-made g w kw =
-        made-as refl (omega arith) (omega arith) refl (made-goes (tab-made₁ w kw) (items (getD c 1 0) x) is c b tab-child g w kw (s .reg) (omega arith))
+        made-as refl (omega arith) (omega arith) refl (made-goes (tab-made₁ w kw) (itemParts (getD c 1 0) x) is c b tab-child g w kw (s .reg) (omega arith))
 
 -- ---- Items
 
@@ -115,19 +115,19 @@ no-items : {m : ℕ} (is : Items) → m ≡ itemCount is → m ≡ 0 → is ≡ 
 no-items noItems e z = refl
 no-items (moreItems k e is) f z = absurd (omega (arith, f, z))
 
-pub items-none : {m x : ℕ} {c b : List ℕ} {k : Bool} {p : Done} {buf : List ℕ} → m ≡ 0 → Goes (items m x) c b k p buf p buf
+pub items-none : {m x : ℕ} {c b : List ℕ} {k : Bool} {p : Done} {buf : List ℕ} → m ≡ 0 → Goes (itemParts m x) c b k p buf p buf
 items-none z = record {
   goes = λ is h w kw. rw (no-items is (h .ok .0) z) (record { cont = omega arith; body = omega arith; lbl = refl; did = record { state = refl; buffer = refl } });
 }
 
-module _ {m x key : ℕ} {e : Expr} {is : Items} (u v : ℕ) (c b : List ℕ) (h : At (items m x) (moreItems key e is) (drop u c) (drop v b)) where
+module _ {m x key : ℕ} {e : Expr} {is : Items} (u v : ℕ) (c b : List ℕ) (h : At (itemParts m x) (moreItems key e is) (drop u c) (drop v b)) where
   item-spells : Spells (flatExpr e ++ flatItems is) (drop (u + 2) c) (drop (v + 1) b)
   item-spells = rw (← drop-drop 2 u c, ← drop-drop 1 v b) (in-node (h .spells))
 
   item-first : At exprs e (drop (u + 2) c) (drop (v + 1) b)
   item-first = record { spells = first (flatExpr e) (flatItems is) item-spells; ok = and-yes (fit e) (fits is) (h .ok .1) .0 }
 
-  item-rest : {j : ℕ} → m ≡ suc j → At (items j x) is (drop (u + 2 + E e) c) (drop (v + 1 + B e) b)
+  item-rest : {j : ℕ} → m ≡ suc j → At (itemParts j x) is (drop (u + 2 + E e) c) (drop (v + 1 + B e) b)
   item-rest {j} f = record {
     spells = second-from (flatExpr e) (flatItems is) (u + 2) (v + 1) c b item-spells;
     ok = (omega (arith, f, h .ok .0), and-yes (fit e) (fits is) (h .ok .1) .1);
@@ -142,12 +142,12 @@ module _ {m x key : ℕ} {e : Expr} {is : Items} (u v : ℕ) (c b : List ℕ) (h
   item-key : getD b v 0 ≡ key
   item-key = ap (λ (t : ℕ). getD b t 0) (omega arith) ∙ sym (getD-drop v b 0 0) ∙ first-body (h .spells)
 
-module _ {m x : ℕ} {c b : List ℕ} {p : Done} {buf : List ℕ} (z : m ≡ 0 → ⊥) (r : ReadsAt (items m x) c b p buf) where
+module _ {m x : ℕ} {c b : List ℕ} {p : Done} {buf : List ℕ} (z : m ≡ 0 → ⊥) (r : ReadsAt (itemParts m x) c b p buf) where
   -- the key and the entry of the Item
   pub items-room : (p .cont + 2 ≤ length c) × (p .body + 1 ≤ length b)
   items-room = by (r .tree) (r .spelt)
     where
-      by : (is : Items) → At (items m x) is (drop (p .cont) c) (drop (p .body) b) → (p .cont + 2 ≤ length c) × (p .body + 1 ≤ length b)
+      by : (is : Items) → At (itemParts m x) is (drop (p .cont) c) (drop (p .body) b) → (p .cont + 2 ≤ length c) × (p .body + 1 ≤ length b)
       by noItems a = absurd (z (a .ok .0))
       by (moreItems key e is) a = (omega (arith, item-room (p .cont) (p .body) c b a (r .cont)), omega (arith, item-roomb (p .cont) (p .body) c b a (r .body)))
 
@@ -156,30 +156,30 @@ item-q : (p : Done) (e : Expr) (w : Place) → p .low .reg + exprRegs e ≡ p .l
 item-q p e w = ap (λ (i : ℕ). p .low .reg + i) (sym (expr-regs e w (p .lbl) (p .low .reg)))
 
 module _ (m x : ℕ) (c b : List ℕ) (p : Done) {buf : List ℕ} {q₀ : Done} (e₀ : q₀ ≡ record { cont = p .cont + 2; body = p .body + 1; lbl = p .lbl; low = p .low }) where
-  pub item-reads : (m ≡ 0 → ⊥) → ReadsAt (items m x) c b p buf → ReadsAt exprs c b q₀ buf
+  pub item-reads : (m ≡ 0 → ⊥) → ReadsAt (itemParts m x) c b p buf → ReadsAt exprs c b q₀ buf
   item-reads z r = by (r .tree) (r .spelt)
     where
-      by : (is : Items) → At (items m x) is (drop (p .cont) c) (drop (p .body) b) → ReadsAt exprs c b q₀ buf
+      by : (is : Items) → At (itemParts m x) is (drop (p .cont) c) (drop (p .body) b) → ReadsAt exprs c b q₀ buf
       by noItems a = absurd (z (a .ok .0))
       by (moreItems key e is) a =
           made-reads (made-start e₀) exprs e c b (item-first (p .cont) (p .body) c b a) (r .ready)
           (omega (arith, item-room (p .cont) (p .body) c b a (r .cont))) (omega (arith, item-roomb (p .cont) (p .body) c b a (r .body)))
 
   module _ {k : Bool} {r₁ : Done} {buf₁ : List ℕ} (g₁ : Goes exprs c b k q₀ buf r₁ buf₁) where
-    item-made₁ : {key : ℕ} {e : Expr} {is : Items} → At (items m x) (moreItems key e is) (drop (p .cont) c) (drop (p .body) b) → (w : Place) → k ≡ kept (p .low .decls) (w .section)
+    item-made₁ : {key : ℕ} {e : Expr} {is : Items} → At (itemParts m x) (moreItems key e is) (drop (p .cont) c) (drop (p .body) b) → (w : Place) → k ≡ kept (p .low .decls) (w .section)
         → Made (lowerExpr e w (p .lbl) (p .low .reg)) (p .cont + 2 + E e) (p .body + 1 + B e) (p .lbl) (p .low) buf r₁ buf₁
     item-made₁ {key} {e} h w kw = made-goes (made-start e₀) exprs e c b (item-first (p .cont) (p .body) c b h) g₁ w kw (p .low .reg) (omega arith)
 
-    pub item-ready : (m ≡ 0 → ⊥) → ReadsAt (items m x) c b p buf → Ready (r₁ .low) buf₁
+    pub item-ready : (m ≡ 0 → ⊥) → ReadsAt (itemParts m x) c b p buf → Ready (r₁ .low) buf₁
     item-ready z r = by (r .tree) (r .spelt)
       where
-        by : (is : Items) → At (items m x) is (drop (p .cont) c) (drop (p .body) b) → Ready (r₁ .low) buf₁
+        by : (is : Items) → At (itemParts m x) is (drop (p .cont) c) (drop (p .body) b) → Ready (r₁ .low) buf₁
         by noItems a = absurd (z (a .ok .0))
         by (moreItems key e is) a = let w = some-place k (p .low .decls) in made-ready (item-made₁ a (w .0) (w .1)) (r .ready)
 
     module _ {f : Fields} {r₂ : Done} {buf₂ : List ℕ} (ef : f ≡ fields (p .lbl) 21 0 x (getD b (p .body) 0) (prev (r₁ .low .reg)) 0 0)
         (l : (r₂ .cont ≡ r₁ .cont) × (r₂ .body ≡ r₁ .body) × (r₂ .lbl ≡ r₁ .lbl) × PushesOp k (r₁ .low) (fieldBytes f) buf₁ (r₂ .low) buf₂) where
-      item-made₂ : {key : ℕ} {e : Expr} {is : Items} → At (items m x) (moreItems key e is) (drop (p .cont) c) (drop (p .body) b) → (w : Place) → k ≡ kept (p .low .decls) (w .section)
+      item-made₂ : {key : ℕ} {e : Expr} {is : Items} → At (itemParts m x) (moreItems key e is) (drop (p .cont) c) (drop (p .body) b) → (w : Place) → k ≡ kept (p .low .decls) (w .section)
           → Made (lowerExpr e w (p .lbl) (p .low .reg) ++ (push w (p .lbl) (Tbli x key (prev (p .low .reg + exprRegs e))) ∷ [])) (p .cont + 2 + E e) (p .body + 1 + B e) (p .lbl) (p .low) buf r₂ buf₂
       item-made₂ {key} {e} h w kw =
           let m₁ = item-made₁ h w kw in
@@ -187,20 +187,20 @@ module _ (m x : ℕ) (c b : List ℕ) (p : Done) {buf : List ℕ} {q₀ : Done} 
           made-push m₁ w kw (instr (p .lbl) (Tbli x key (prev (r₁ .low .reg)))) (instr (p .lbl) (Tbli x key (prev q))) l refl
           (ap fieldBytes (rw (item-key (p .cont) (p .body) c b h) at ef)) (λ z. ap (λ (i : ℕ). instr (p .lbl) (Tbli x key (prev i))) (made-reg m₁ q (item-q p e w) z))
 
-      pub item-next : {j : ℕ} → m ≡ suc j → ReadsAt (items m x) c b p buf → (p .cont < r₂ .cont) × ReadsAt (items j x) c b r₂ buf₂
+      pub item-next : {j : ℕ} → m ≡ suc j → ReadsAt (itemParts m x) c b p buf → (p .cont < r₂ .cont) × ReadsAt (itemParts j x) c b r₂ buf₂
       item-next {j} z r = by (r .tree) (r .spelt)
         where
-          by : (is : Items) → At (items m x) is (drop (p .cont) c) (drop (p .body) b) → (p .cont < r₂ .cont) × ReadsAt (items j x) c b r₂ buf₂
+          by : (is : Items) → At (itemParts m x) is (drop (p .cont) c) (drop (p .body) b) → (p .cont < r₂ .cont) × ReadsAt (itemParts j x) c b r₂ buf₂
           by noItems a = absurd (omega (arith, z, a .ok .0))
           by (moreItems key e is) a =
               let w = some-place k (p .low .decls) in
               let m₂ = item-made₂ a (w .0) (w .1) in
-              (omega (arith, m₂ .cont), made-reads m₂ (items j x) is c b (item-rest (p .cont) (p .body) c b a z) (r .ready) (item-room (p .cont) (p .body) c b a (r .cont)) (item-roomb (p .cont) (p .body) c b a (r .body)))
+              (omega (arith, m₂ .cont), made-reads m₂ (itemParts j x) is c b (item-rest (p .cont) (p .body) c b a z) (r .ready) (item-room (p .cont) (p .body) c b a (r .cont)) (item-roomb (p .cont) (p .body) c b a (r .body)))
 
-      pub item-goes : {j : ℕ} {r₃ : Done} {buf₃ : List ℕ} → m ≡ suc j → Goes (items j x) c b k r₂ buf₂ r₃ buf₃ → Goes (items m x) c b k p buf r₃ buf₃
+      pub item-goes : {j : ℕ} {r₃ : Done} {buf₃ : List ℕ} → m ≡ suc j → Goes (itemParts j x) c b k r₂ buf₂ r₃ buf₃ → Goes (itemParts m x) c b k p buf r₃ buf₃
       item-goes {j} {r₃} {buf₃} z g = record { goes = by }
         where
-          by : (is : Items) → At (items m x) is (drop (p .cont) c) (drop (p .body) b) → (w : Place) → k ≡ kept (p .low .decls) (w .section)
+          by : (is : Items) → At (itemParts m x) is (drop (p .cont) c) (drop (p .body) b) → (w : Place) → k ≡ kept (p .low .decls) (w .section)
               → Made (lowerItems is x w (p .lbl) (p .low .reg)) (p .cont + length (entryBytes (flatItems is))) (p .body + length (bodyBytes (flatItems is))) (p .lbl) (p .low) buf r₃ buf₃
           by noItems a w kw = absurd (omega (arith, z, a .ok .0))
           by (moreItems key e is) a w kw =
@@ -209,7 +209,7 @@ module _ (m x : ℕ) (c b : List ℕ) (p : Done) {buf : List ℕ} {q₀ : Done} 
               let o = push w (p .lbl) (Tbli x key (prev q)) ∷ [] in
               made-as (append-assoc X o (lowerItems is x w (p .lbl) q))
               (omega (arith, both-nodes (flatExpr e) (flatItems is))) (omega (arith, both-bodies (flatExpr e) (flatItems is))) refl
-              (made-goes (item-made₂ a w kw) (items j x) is c b (item-rest (p .cont) (p .body) c b a z) g w kw q (item-q p e w ∙ omega (arith, regs-append X o)))
+              (made-goes (item-made₂ a w kw) (itemParts j x) is c b (item-rest (p .cont) (p .body) c b a z) g w kw q (item-q p e w ∙ omega (arith, regs-append X o)))
 
 -- ---- which kind is assigned
 
@@ -277,13 +277,13 @@ module _ {x : ℕ} {c b : List ℕ} {k : Bool} {n : ℕ} {s : Low} {buf : List �
       high kfalse l = f
 
   pub expr-stores : (getD c 0 0 ≡ 10 → ⊥) → (getD c 0 0 ≡ 12 → ⊥) → (getD c 0 0 ≡ 13 → ⊥) → (getD c 0 0 ≡ 19 → ⊥) → (getD c 0 0 ≡ 20 → ⊥) → (getD c 0 0 ≡ 21 → ⊥) → getD c 0 0 ≤ 21
-      → Front (stored x) c b k n s buf d buf′ → Front (rights x) c b k n s buf d buf′
+      → Front (storedParts x) c b k n s buf d buf′ → Front (rights x) c b k n s buf d buf′
   expr-stores f₁ f₂ f₃ f₄ f₅ f₆ l g = record {
     front = λ r h. only-rest (λ r. At (rights x) r c b → Makes (rights x) r k n s buf d buf′) f₁ f₂ f₃
         (λ e j a. other j f₄ f₅ f₆ l (g .front e (record { spells = a .spells; ok = a .ok }))) (of-right h) h;
   }
     where
-      other : {m : ℕ} {e : Expr} → EKind m e → (m ≡ 19 → ⊥) → (m ≡ 20 → ⊥) → (m ≡ 21 → ⊥) → m ≤ 21 → Makes (stored x) e k n s buf d buf′ → Makes (rights x) (Expression e) k n s buf d buf′
+      other : {m : ℕ} {e : Expr} → EKind m e → (m ≡ 19 → ⊥) → (m ≡ 20 → ⊥) → (m ≡ 21 → ⊥) → m ≤ 21 → Makes (storedParts x) e k n s buf d buf′ → Makes (rights x) (Expression e) k n s buf d buf′
       other kmut a b c l f = f
       other kcall a b c l f = f
       other kasg a b c l f = f

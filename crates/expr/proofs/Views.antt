@@ -8,9 +8,9 @@ use lib.ListN.{length, getD}
 use Rattle.ast.specs.Tree.{BinTok, UnTok, Lit, Val, Text, Truth, Expr, Literal, Name, BinaryExpr, UnaryExpr, VarAssign, ArrayMut, FnCall}
 use Rattle.ast.specs.Tree.{Rhs, Expression, Table, Array, ArrayAccess, Exprs, Items}
 use Rattle.ast.specs.Flat.{flatExpr, flatRhs}
-use Rattle.emit.specs.Made.{Spells, Part, At}
-use Rattle.emit.specs.Spell.{first-kind, fits-nodes}
-use Rattle.expr.specs.Parts.{exprs, rights}
+use Rattle.emit.specs.inner.Made.{Spells, Part, At}
+use Rattle.emit.specs.laws.Spell.{first-kind, fits-nodes}
+use Rattle.expr.specs.inner.Parts.{exprs, rights}
 
 pub data EKind : ℕ → Expr → Type 0 where
   kmut : {x : ℕ} {i v : Expr} → EKind 14 (ArrayMut x i v)

@@ -6,20 +6,20 @@ ghost use Prim.Native.Nat.{_+_, _*_, _≤_, _<_};
 ghost use lib.Dec.{ltb};
 ghost use lib.ListN.{length, drop, getD};
 ghost use Rattle.lent.specs.Bytes.{splice};
-ghost use Rattle.sifv.specs.Seen.{plain};
+ghost use Rattle.sifv.specs.inner.Seen.{singleSeen};
 ghost use Rattle.opc.specs.Record.{itemBytes, fieldBytes, fields};
-ghost use Rattle.opc.specs.Fetch.{told};
+ghost use Rattle.opc.specs.inner.Fetch.{fieldsTold};
 ghost use Rattle.ast.specs.Tree.{Lit};
 ghost use Rattle.ast.specs.Flat.{flatLits, bodyBytes};
-ghost use Rattle.emit.specs.Run.{Ready};
-ghost use Rattle.emit.specs.Made.{Reads, Front};
-ghost use Rattle.expr.specs.Parts.{rights};
-ghost use Rattle.expr.specs.Arrays.{litSize, valueAt, poolBytes, Lits, PushesItems};
+ghost use Rattle.emit.specs.inner.Run.{Ready};
+ghost use Rattle.emit.specs.inner.Made.{Reads, Front};
+ghost use Rattle.expr.specs.inner.Parts.{rights};
+ghost use Rattle.expr.specs.inner.Arrays.{litSize, valueAt, itemsBytes, Lits, PushesItems};
 
 // The value of a literal's node, whose body begins at `at`.
 fn val_from_primary(kind: u8, bodies: &[u8], at: usize) -> sifv::SifVal
     requires { ⌜ (kind ≡ 19 → at + 8 ≤ length (now bodies)) × (kind ≡ 20 → at < length (now bodies)) ⌝ }
-    ensures { λ r. ⌜ plain r ≡ valueAt kind (now (bodies .entry)) at ⌝ }
+    ensures { λ r. ⌜ singleSeen r ≡ valueAt kind (now (bodies .entry)) at ⌝ }
 {
     if kind == 19 {
         return sifv::SifVal::Num(numeric::from_bits(lent::get_u64(bodies, at)));
@@ -45,7 +45,7 @@ fn lit_size(kind: u8) -> usize
 // Entry k of the pool becomes v, where `keep`.
 fn keep_item(keep: bool, k: usize, v: sifv::SifVal, out: &mut [u8])
     requires { ⌜ (keep ≡ true → 16384 + 16 * k + 16 ≤ length (now out)) ⌝ }
-    ensures { λ _. ⌜ now (out .exit) ≡ cond keep (splice (now (out .entry)) (16384 + 16 * k) (itemBytes (plain v))) (now (out .entry)) ⌝ }
+    ensures { λ _. ⌜ now (out .exit) ≡ cond keep (splice (now (out .entry)) (16384 + 16 * k) (itemBytes (singleSeen v))) (now (out .entry)) ⌝ }
 {
     if keep {
         opc::put_item(out, k, v);
@@ -64,7 +64,7 @@ fn arrayitems(
 ) -> usize
     requires { ⌜ (n ≤ 255) × (k ≤ 1024) × (keep ≡ true → 16384 + 16 * (k + n) ≤ length (now out)) ⌝ }
     requires { ⌜ ((ls : List Lit) × Lits n ls (now contents) (now bodies)) ⌝ }
-    ensures { λ r. ⌜ ((ls : List Lit) → Lits n ls (now (contents .entry)) (now (bodies .entry)) → (r ≡ 1 + length (bodyBytes (flatLits ls))) × (now (out .exit) ≡ cond keep (splice (now (out .entry)) (16384 + 16 * k) (poolBytes ls)) (now (out .entry)))) ⌝ }
+    ensures { λ r. ⌜ ((ls : List Lit) → Lits n ls (now (contents .entry)) (now (bodies .entry)) → (r ≡ 1 + length (bodyBytes (flatLits ls))) × (now (out .exit) ≡ cond keep (splice (now (out .entry)) (16384 + 16 * k) (itemsBytes ls)) (now (out .entry)))) ⌝ }
 {
     let mut at = 1;
     let mut i = 0;
@@ -81,7 +81,7 @@ fn arrayitems(
 // An instruction with n items: its record; the items are written by the caller, where a record was.
 fn push_items(keep: bool, low: emit::Low, f: opc::Fields, n: usize, out: &mut [u8]) -> emit::Low
     requires { ⌜ Ready low (now out) × (n ≤ 1024) ⌝ }
-    ensures { λ r. ⌜ PushesItems keep low n (fieldBytes (told f)) (now (out .entry)) r (now (out .exit)) ⌝ }
+    ensures { λ r. ⌜ PushesItems keep low n (fieldBytes (fieldsTold f)) (now (out .entry)) r (now (out .exit)) ⌝ }
 {
     if low.refused != 0 {
         return low;
@@ -94,7 +94,7 @@ fn push_items(keep: bool, low: emit::Low, f: opc::Fields, n: usize, out: &mut [u
 }
 
 fn array_fields(lbl: u64, name: u8, n: u8, items: usize) -> opc::Fields
-    ensures { λ r. ⌜ told r ≡ fields lbl 9 5 name 0 0 n items ⌝ }
+    ensures { λ r. ⌜ fieldsTold r ≡ fields lbl 9 5 name 0 0 n items ⌝ }
 {
     opc::Fields {
         code: 9,

@@ -5,8 +5,8 @@ mod skip;
 ghost use mathlib.Core.Path.{_≡_};
 ghost use Prim.Native.Nat.{_≤_};
 ghost use lib.ListN.{length, getD};
-ghost use Rattle.emit.specs.Made.{Reads, Front, ReadsAt, Goes};
-ghost use Rattle.expr.specs.Parts.{exprs, args, operands, stored, rights, params, items};
+ghost use Rattle.emit.specs.inner.Made.{Reads, Front, ReadsAt, Goes};
+ghost use Rattle.expr.specs.inner.Parts.{exprs, args, operands, storedParts, rights, paramParts, itemParts};
 
 // The expression at the front. True and False give nothing.
 pub fn expr(
@@ -191,8 +191,8 @@ fn params(
     p: emit::Done,
     out: &mut [u8],
 ) -> emit::Done
-    requires { ⌜ ReadsAt (params n) (now contents) (now bodies) p (now out) ⌝ }
-    ensures { λ r. ⌜ Goes (params n) (now (contents .entry)) (now (bodies .entry)) keep p (now (out .entry)) r (now (out .exit)) ⌝ }
+    requires { ⌜ ReadsAt (paramParts n) (now contents) (now bodies) p (now out) ⌝ }
+    ensures { λ r. ⌜ Goes (paramParts n) (now (contents .entry)) (now (bodies .entry)) keep p (now (out .entry)) r (now (out .exit)) ⌝ }
 {
     let mut q = p;
     let mut more = n;
@@ -293,7 +293,7 @@ fn expr_assign(
     out: &mut [u8],
 ) -> emit::Done
     requires { ⌜ Reads exprs (now contents) (now bodies) low (now out) ⌝ }
-    ensures { λ r. ⌜ Front (stored x) (now (contents .entry)) (now (bodies .entry)) keep lbl low (now (out .entry)) r (now (out .exit)) ⌝ }
+    ensures { λ r. ⌜ Front (storedParts x) (now (contents .entry)) (now (bodies .entry)) keep lbl low (now (out .entry)) r (now (out .exit)) ⌝ }
 {
     let a = expr(contents, bodies, keep, lbl, low, out);
     let f = emit::fields_of(lbl, 11, 0, emit::prevreg(a.low), x, 0, 0);
@@ -335,8 +335,8 @@ fn table_items(
     p: emit::Done,
     out: &mut [u8],
 ) -> emit::Done
-    requires { ⌜ ReadsAt (items n x) (now contents) (now bodies) p (now out) ⌝ }
-    ensures { λ r. ⌜ Goes (items n x) (now (contents .entry)) (now (bodies .entry)) keep p (now (out .entry)) r (now (out .exit)) ⌝ }
+    requires { ⌜ ReadsAt (itemParts n x) (now contents) (now bodies) p (now out) ⌝ }
+    ensures { λ r. ⌜ Goes (itemParts n x) (now (contents .entry)) (now (bodies .entry)) keep p (now (out .entry)) r (now (out .exit)) ⌝ }
 {
     let mut q = p;
     let mut more = n;

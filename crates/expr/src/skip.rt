@@ -3,8 +3,8 @@ ghost use mathlib.Core.Path.{_≡_};
 ghost use lib.ListN.{length};
 ghost use Rattle.ast.specs.Tree.{Expr};
 ghost use Rattle.ast.specs.Flat.{flatExpr, entryBytes, bodyBytes};
-ghost use Rattle.emit.specs.Made.{Spells};
-ghost use Rattle.expr.specs.Awaits.{bodyLength};
+ghost use Rattle.emit.specs.inner.Made.{Spells};
+ghost use Rattle.expr.specs.inner.Awaits.{bodyLength};
 
 // The bytes of the entries and of the bodies of a subtree.
 pub struct Extent {

@@ -1,12 +1,12 @@
 // The leaves as C functions: compare/ calls them beside Rust.
 ghost use mathlib.Core.Path.{_≡_};
 ghost use lib.Ieee.{binary64, ofBits};
-ghost use Rattle.numeric.specs.Index.{indexOf};
-ghost use Rattle.numeric.specs.Patterns.{bitsOf};
 ghost use Rattle.numeric.specs.Remainder as Rule;
 ghost use Rattle.ast.specs.File.{readTree};
-ghost use Rattle.ast.specs.Answer.{answerOf};
-ghost use Rattle.ast.specs.Under.{plainOf};
+ghost use Rattle.ast.specs.inner.Answer.{answerOf};
+ghost use Rattle.ast.specs.inner.Under.{plainOf};
+ghost use Rattle.numeric.specs.Index.{indexOf};
+ghost use Rattle.numeric.specs.inner.Patterns.{bitsOf};
 
 #[no_mangle]
 pub extern "C" fn leaf_index_of(x: f64) -> u64

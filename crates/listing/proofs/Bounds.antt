@@ -14,9 +14,9 @@ use Rattle.compiler.specs.Lower.{lower, lowered}
 use Rattle.walk.specs.Bound.{bound}
 use Rattle.text.specs.Text.{ascii, decimal}
 use Rattle.text.specs.Put.{Put}
-use Rattle.bound.specs.Weights.{limit}
-use Rattle.bound.specs.BoundOf.{boundOf}
-use Rattle.bound.specs.Whole.{bound-fits, bound-tells}
+use Rattle.bound.specs.inner.Weights.{limit}
+use Rattle.bound.specs.inner.BoundOf.{boundOf}
+use Rattle.bound.specs.laws.Whole.{bound-fits, bound-tells}
 use Rattle.engine.specs.Listing.{boundLine}
 
 -- the bound n of the code, of a file that is read as t, which is lowered to p

@@ -1,13 +1,12 @@
 -- The listing by the calls that make it: a refused file's number, or what lower, start and a run of 100,000 steps leave. Assumes nothing.
-use mathlib.Core.Path.{_≡_, refl, sym, ap, ap₂, _∙_, subst}
-use mathlib.Core.Bool.{Bool, true, false, cond}
+use mathlib.Core.Path.{_≡_, refl, sym, ap, _∙_, subst}
+use mathlib.Core.Bool.{Bool, cond}
 use mathlib.Core.List.{List, _++_}
 use mathlib.Core.Option.{some}
-use Prim.Native.Nat.{ℕ, _+_, _-_, _^_, _≤_, _<_}
+use Prim.Native.Nat.{ℕ, _-_, _^_, _≤_, _<_}
 use native.Mathlib.Omega.{arith}
-use lib.Dec.{ltb}
 use lib.ListN.{length, drop}
-use borrow.Author.Tests.{le-ltb, lt-ltb}
+use borrow.Author.Tests.{le-ltb}
 use Rattle.lent.specs.Bytes.{AreBytes}
 use Rattle.ast.specs.Tree.{Stmts}
 use Rattle.ast.specs.Plain.{plain}
@@ -15,24 +14,24 @@ use Rattle.ast.specs.File.{Read, Refused, Tree, readTree}
 use Rattle.tables.specs.Tables.{Program}
 use Rattle.tables.specs.ProgramBytes.{programSize, decodeProgram}
 use Rattle.compiler.specs.Lower.{Lowered, refused, lowered, lower}
-use Rattle.vm.specs.Machine.{State, Ran, started, run}
+use Rattle.vm.specs.Machine.{started, run}
 use Rattle.vm.specs.StateBytes.{stateSize, encodeState}
-use Rattle.vm.specs.Kept.{started-storable}
+use Rattle.vm.specs.laws.Kept.{started-storable}
 use Rattle.walk.specs.Bound.{bound}
 use Rattle.report.specs.Report.{reportSize, report}
 use Rattle.lower.specs.LowerCall.{over, Answered, answered, lowerMade, lowerRead, lowerCall}
 use Rattle.calls.specs.Calls.{RunAnswered, startCall, runRefused, ranOut, runCall}
-use Rattle.execute.specs.Programs.{orEmpty, programOf}
-use Rattle.engine.specs.Accepting.{Accepts, accepts}
-use Rattle.engine.specs.ListLaws.{Holds, holds-over, run-answers}
+use Rattle.engine.specs.laws.Accepting.{accepts}
+use Rattle.engine.specs.laws.ListLaws.{Holds, holds-over, run-answers}
 use Rattle.text.specs.Put.{Put}
-use Rattle.text.specs.PutLaws.{put-then, put-within}
+use Rattle.text.specs.laws.PutLaws.{put-then, put-within}
 use Rattle.ops.specs.ProgramText.{programText}
 use Rattle.ending.specs.Ending.{ranText}
-use Rattle.ending.specs.Left.{Left}
-use Rattle.ending.specs.EndBytes.{ranIn}
-use Rattle.ending.specs.LeftLaws.{left-text, run-left}
+use Rattle.ending.specs.laws.Left.{Left}
+use Rattle.ending.specs.inner.EndBytes.{ranIn}
+use Rattle.ending.specs.laws.LeftLaws.{left-text, run-left}
 use Rattle.engine.specs.Listing.{boundLine, refusedText, loweredText, readText, listing}
+use Rattle.execute.specs.inner.ProgramView.{orEmpty, programIn}
 
 -- ---- a refused file
 
@@ -104,11 +103,11 @@ pub listing-made : {file program state out : List ℕ} (m : Made file program st
 unfolding listing
 listing-made m = ap readText (m .reads) ∙ ap (loweredText (m .tree)) (m .lowers)
 
-pub program-of : {file program state out : List ℕ} (m : Made file program state out) → programOf program ≡ m .made
+pub program-of : {file program state out : List ℕ} (m : Made file program state out) → programIn program ≡ m .made
 program-of m = ap orEmpty (m .back)
 
 -- the three texts, one after the other
-module _ {file program state told : List ℕ} (m : Made file program state told) {out out₁ out₂ : List ℕ} {r₁ r₂ : ℕ} (a : Put out 0 (programText (programOf program)) out₁ r₁)
+module _ {file program state told : List ℕ} (m : Made file program state told) {out out₁ out₂ : List ℕ} {r₁ r₂ : ℕ} (a : Put out 0 (programText (programIn program)) out₁ r₁)
     (b : (t : Stmts) (p : Program) → readTree file ≡ Tree t → lower t ≡ lowered p → Put out₁ r₁ (boundLine (plain t) (bound t)) out₂ r₂) where
   begun : 0 ≤ length out
   begun = omega arith

@@ -1,1 +1,1 @@
-pub mod LongInput
+pub mod laws

@@ -1,6 +1,3 @@
 pub mod LowerCall
-pub mod Passes
-pub mod Buffer
-pub mod Compile
-pub mod CompileLaws
-pub mod LowerLaws
+pub mod laws
+pub mod inner

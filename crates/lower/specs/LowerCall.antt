@@ -5,10 +5,11 @@ use mathlib.Core.Bool.{cond}
 use mathlib.Core.List.{List, _++_}
 use lib.Dec.{ltb}
 use lib.ListN.{length, drop}
-use Rattle.sifv.specs.Slot.{zeros}
 use Rattle.ast.specs.File.{readTree, Read, Refused, Tree}
 use Rattle.tables.specs.ProgramBytes.{programSize, encodeProgram}
 use Rattle.compiler.specs.Lower.{lower, Lowered, refused, lowered}
+use Rattle.lent.specs.Lists.{zeros}
+use Rattle.lent.specs.Refusals.{shortBuffer}
 
 -- new bytes at a buffer's start; "longer ones are untouched beyond"
 abbrev pub over : List ℕ → List ℕ → List ℕ
@@ -33,4 +34,4 @@ lowerRead (Refused n) b = answered n (over (zeros programSize) b)
 lowerRead (Tree t) b = lowerMade (lower t) b
 
 unfoldable pub lowerCall : List ℕ → List ℕ → Answered
-lowerCall file program = cond (ltb (length program) programSize) (answered 9 program) (lowerRead (readTree file) program)
+lowerCall file program = cond (ltb (length program) programSize) (answered shortBuffer program) (lowerRead (readTree file) program)

@@ -4,15 +4,15 @@ ghost use mathlib.Core.List.{List};
 ghost use Prim.Native.Nat.{ℕ, _≤_};
 ghost use lib.ListN.{length};
 ghost use Rattle.lent.specs.Bytes.{part};
-ghost use Rattle.sifv.specs.Slot.{zeros};
 ghost use Rattle.opc.specs.Op.{Code};
-ghost use Rattle.tables.specs.Entries.{Records};
+ghost use Rattle.tables.specs.inner.Entries.{Records};
 ghost use Rattle.compiler.specs.Lower.{lowerTree, refusal};
 ghost use Rattle.ast.specs.Tree.{Stmts};
 ghost use Rattle.ast.specs.File.{Tree, readTree};
-ghost use Rattle.ast.specs.Answer.{answerOf};
+ghost use Rattle.ast.specs.inner.Answer.{answerOf};
 ghost use Rattle.lower.specs.LowerCall.{answered, lowerCall};
-ghost use Rattle.lower.specs.Compile.{Spelt, Cleared, Compiled, finished};
+ghost use Rattle.lower.specs.inner.Compile.{Spelt, Cleared, Compiled, finished};
+ghost use Rattle.lent.specs.Lists.{zeros};
 
 // The tables of the n records, their count and the code start.
 fn finish(program: &mut [u8], n: usize, start: usize)

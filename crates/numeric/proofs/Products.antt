@@ -6,9 +6,9 @@ use native.Mathlib.Numerals.{add-one}
 use native.Mathlib.Omega.{arith}
 use lib.Pow.{pow-add, pow-pos, shl-shr}
 use lib.Count.{leadingZeros, leading-top}
-use Rattle.numeric.specs.Exact.{mod-scale}
-use Rattle.numeric.specs.Fields.{leading}
-use Rattle.numeric.specs.Reciprocal.{Reciprocal}
+use Rattle.numeric.specs.laws.Exact.{mod-scale}
+use Rattle.numeric.specs.inner.Fields.{leading}
+use Rattle.numeric.specs.inner.Reciprocal.{Reciprocal}
 use Rattle.numeric.proofs.Units.{mod-mul-mod, pow-lt-back}
 
 -- ---- the reciprocal

@@ -3,11 +3,11 @@ ghost use mathlib.Core.Path.{_≡_};
 ghost use Prim.Native.Nat.{_*_, _%_, _^_, _≤_, _<_};
 ghost use lib.Ieee as Ieee;
 ghost use lib.Ieee.{binary64};
-ghost use Rattle.numeric.specs.Index.{indexOf};
-ghost use Rattle.numeric.specs.Patterns.{bitsOf};
-ghost use Rattle.numeric.specs.Fields.{leading, infinity, significand, exponent, units};
-ghost use Rattle.numeric.specs.Reciprocal.{Reciprocal};
+ghost use Rattle.numeric.specs.inner.Fields.{leading, infinity, significand, exponent, units};
+ghost use Rattle.numeric.specs.inner.Reciprocal.{Reciprocal};
 ghost use Rattle.numeric.specs.Remainder as Rule;
+ghost use Rattle.numeric.specs.Index.{indexOf};
+ghost use Rattle.numeric.specs.inner.Patterns.{bitsOf};
 
 // The weights of a pattern's leading digit and of its sign, and the pattern of an infinity.
 const LEADING: u64 = 0x10_0000_0000_0000;

@@ -1,4 +1,3 @@
 pub mod ProgramText
-pub mod Told
-pub mod ToldLaws
-pub mod TextLaws
+pub mod laws
+pub mod inner

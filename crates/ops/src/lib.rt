@@ -7,13 +7,14 @@ ghost use lib.ListN.{length};
 ghost use Rattle.lent.specs.Bytes.{concat};
 ghost use Rattle.sifv.specs.Value.{Arr};
 ghost use Rattle.opc.specs.Op.{Binary, Unary, Ldc, Stc, JmpCnd, Fn};
-ghost use Rattle.opc.specs.Fetch.{told};
-ghost use Rattle.tables.specs.ProgramBytes.{tabulate, decodeProgram};
-ghost use Rattle.text.specs.Text.{ascii, decimal, singleText, joined, valueText, words, fields, lineOf};
+ghost use Rattle.opc.specs.inner.Fetch.{fieldsTold, recordAt};
+ghost use Rattle.tables.specs.ProgramBytes.{decodeProgram};
+ghost use Rattle.text.specs.Text.{ascii, decimal, singleText, joined, valueText, words, numberFields, lineOf};
 ghost use Rattle.text.specs.Put.{Put};
-ghost use Rattle.execute.specs.Programs.{programOf};
 ghost use Rattle.ops.specs.ProgramText.{opWords, opLine, programText};
-ghost use Rattle.ops.specs.Told.{binIn, unIn, jmpIn, itemAt, paramAt, literalAt, opIn, Within, Pooled, recordAt, instrAt, entryLine, entryAt};
+ghost use Rattle.ops.specs.inner.Told.{binIn, unIn, jmpIn, itemTold, paramAt, literalTold, opIn, Within, PooledTold, instrAt, entryLine, tableEntry};
+ghost use Rattle.lent.specs.Lists.{tabulate};
+ghost use Rattle.execute.specs.inner.ProgramView.{programIn};
 
 // ---- a name and numbers, blanks between
 
@@ -96,7 +97,7 @@ fn put_jmp_cnd(out: &mut [u8], at: usize, kind: u8, a: u64, word: u64) -> usize
 // Entry k of the pool.
 fn put_item(out: &mut [u8], at: usize, program: &[u8], k: usize) -> usize
     requires { ⌜ (at ≤ length (now out)) × (32768 ≤ length (now program)) × (k < 1024) ⌝ }
-    ensures { λ r. ⌜ Put (now (out .entry)) at (singleText (itemAt (now (program .entry)) k)) (now (out .exit)) r ⌝ }
+    ensures { λ r. ⌜ Put (now (out .entry)) at (singleText (itemTold (now (program .entry)) k)) (now (out .exit)) r ⌝ }
 {
     let e = 16384 + 16 * k;
     let word = lent::get_u64(program, e + 8);
@@ -106,7 +107,7 @@ fn put_item(out: &mut [u8], at: usize, program: &[u8], k: usize) -> usize
 // The n items from entry first on, commas between.
 fn put_items(out: &mut [u8], at: usize, program: &[u8], first: usize, n: usize) -> usize
     requires { ⌜ (at ≤ length (now out)) × (32768 ≤ length (now program)) × Within first n ⌝ }
-    ensures { λ r. ⌜ Put (now (out .entry)) at (joined (ascii ",") (map singleText (tabulate first n (itemAt (now (program .entry)))))) (now (out .exit)) r ⌝ }
+    ensures { λ r. ⌜ Put (now (out .entry)) at (joined (ascii ",") (map singleText (tabulate first n (itemTold (now (program .entry)))))) (now (out .exit)) r ⌝ }
 {
     let mut p = at;
     let mut i = 0;
@@ -120,7 +121,7 @@ fn put_items(out: &mut [u8], at: usize, program: &[u8], first: usize, n: usize) 
 
 fn put_array(out: &mut [u8], at: usize, program: &[u8], first: usize, n: usize) -> usize
     requires { ⌜ (at ≤ length (now out)) × (32768 ≤ length (now program)) × Within first n ⌝ }
-    ensures { λ r. ⌜ Put (now (out .entry)) at (valueText (Arr (tabulate first n (itemAt (now (program .entry)))))) (now (out .exit)) r ⌝ }
+    ensures { λ r. ⌜ Put (now (out .entry)) at (valueText (Arr (tabulate first n (itemTold (now (program .entry)))))) (now (out .exit)) r ⌝ }
 {
     let p = text::put_all(out, at, b"Arr:[");
     let q = put_items(out, p, program, first, n);
@@ -130,7 +131,7 @@ fn put_array(out: &mut [u8], at: usize, program: &[u8], first: usize, n: usize) 
 // The value of kind, length and number: an array's items are in the pool; a table is empty.
 fn put_literal(out: &mut [u8], at: usize, program: &[u8], kind: u8, len: u64, word: u64) -> usize
     requires { ⌜ (at ≤ length (now out)) × (32768 ≤ length (now program)) × ((kind ≡ 5) → Within word len) ⌝ }
-    ensures { λ r. ⌜ Put (now (out .entry)) at (valueText (literalAt (now (program .entry)) kind len word)) (now (out .exit)) r ⌝ }
+    ensures { λ r. ⌜ Put (now (out .entry)) at (valueText (literalTold (now (program .entry)) kind len word)) (now (out .exit)) r ⌝ }
 {
     if kind == 5 {
         return put_array(out, at, program, word as usize, len as usize);
@@ -151,7 +152,7 @@ fn put_ldc(
     word: u64,
 ) -> usize
     requires { ⌜ (at ≤ length (now out)) × (32768 ≤ length (now program)) × ((kind ≡ 5) → Within word len) ⌝ }
-    ensures { λ r. ⌜ Put (now (out .entry)) at (joined (ascii " ") (opWords (Ldc a (literalAt (now (program .entry)) kind len word)))) (now (out .exit)) r ⌝ }
+    ensures { λ r. ⌜ Put (now (out .entry)) at (joined (ascii " ") (opWords (Ldc a (literalTold (now (program .entry)) kind len word)))) (now (out .exit)) r ⌝ }
 {
     let p = text::put_all(out, at, b"Ldc ");
     let q = text::put_decimal(out, p, a);
@@ -169,7 +170,7 @@ fn put_stc(
     a: u64,
 ) -> usize
     requires { ⌜ (at ≤ length (now out)) × (32768 ≤ length (now program)) × ((kind ≡ 5) → Within word len) ⌝ }
-    ensures { λ r. ⌜ Put (now (out .entry)) at (joined (ascii " ") (opWords (Stc (literalAt (now (program .entry)) kind len word) a))) (now (out .exit)) r ⌝ }
+    ensures { λ r. ⌜ Put (now (out .entry)) at (joined (ascii " ") (opWords (Stc (literalTold (now (program .entry)) kind len word) a))) (now (out .exit)) r ⌝ }
 {
     let p = text::put_all(out, at, b"Stc ");
     let q = put_literal(out, p, program, kind, len, word);
@@ -181,7 +182,7 @@ fn put_stc(
 // The n parameters from entry first of the pool on, a blank before each.
 fn put_params(out: &mut [u8], at: usize, program: &[u8], first: usize, n: usize) -> usize
     requires { ⌜ (at ≤ length (now out)) × (32768 ≤ length (now program)) × Within first n ⌝ }
-    ensures { λ r. ⌜ Put (now (out .entry)) at (fields (tabulate first n (paramAt (now (program .entry))))) (now (out .exit)) r ⌝ }
+    ensures { λ r. ⌜ Put (now (out .entry)) at (numberFields (tabulate first n (paramAt (now (program .entry))))) (now (out .exit)) r ⌝ }
 {
     let mut p = at;
     let mut i = 0;
@@ -205,8 +206,8 @@ fn put_fn(out: &mut [u8], at: usize, program: &[u8], a: u64, len: u64, word: u64
 
 // The operation that the fields of a record tell, by its number (docs/FORMATS.md), and its operands.
 fn put_op(out: &mut [u8], at: usize, program: &[u8], f: opc::Fields) -> usize
-    requires { ⌜ (at ≤ length (now out)) × (32768 ≤ length (now program)) × Pooled (f .word) (opIn (now program) (told f)) ⌝ }
-    ensures { λ r. ⌜ Put (now (out .entry)) at (joined (ascii " ") (opWords (opIn (now (program .entry)) (told f)))) (now (out .exit)) r ⌝ }
+    requires { ⌜ (at ≤ length (now out)) × (32768 ≤ length (now program)) × PooledTold (f .word) (opIn (now program) (fieldsTold f)) ⌝ }
+    ensures { λ r. ⌜ Put (now (out .entry)) at (joined (ascii " ") (opWords (opIn (now (program .entry)) (fieldsTold f)))) (now (out .exit)) r ⌝ }
 {
     let code = f.code;
     let kind = f.kind;
@@ -245,7 +246,7 @@ fn put_op(out: &mut [u8], at: usize, program: &[u8], f: opc::Fields) -> usize
 
 // The line of instruction i: index, label, operation, operands.
 fn put_instr(out: &mut [u8], at: usize, program: &[u8], i: usize) -> usize
-    requires { ⌜ (at ≤ length (now out)) × (40960 ≤ length (now program)) × (i < 1024) × Pooled (recordAt (now program) i .word) (opIn (now program) (recordAt (now program) i)) ⌝ }
+    requires { ⌜ (at ≤ length (now out)) × (40960 ≤ length (now program)) × (i < 1024) × PooledTold (recordAt (now program) i .word) (opIn (now program) (recordAt (now program) i)) ⌝ }
     ensures { λ r. ⌜ Put (now (out .entry)) at (opLine i (instrAt (now (program .entry)) i)) (now (out .exit)) r ⌝ }
 {
     let f = opc::fetch_fields(program, i);
@@ -257,7 +258,7 @@ fn put_instr(out: &mut [u8], at: usize, program: &[u8], i: usize) -> usize
 
 // The lines of the first n instructions.
 fn put_code(out: &mut [u8], at: usize, program: &[u8], n: usize) -> usize
-    requires { ⌜ (at ≤ length (now out)) × (40960 ≤ length (now program)) × (n ≤ 1024) × ((i : ℕ) → i < n → Pooled (recordAt (now program) i .word) (opIn (now program) (recordAt (now program) i))) ⌝ }
+    requires { ⌜ (at ≤ length (now out)) × (40960 ≤ length (now program)) × (n ≤ 1024) × ((i : ℕ) → i < n → PooledTold (recordAt (now program) i .word) (opIn (now program) (recordAt (now program) i))) ⌝ }
     ensures { λ r. ⌜ Put (now (out .entry)) at (concat (tabulate 0 n (λ i. opLine i (instrAt (now (program .entry)) i)))) (now (out .exit)) r ⌝ }
 {
     let mut p = at;
@@ -286,7 +287,7 @@ fn put_entry(out: &mut [u8], at: usize, name: &[u8], i: usize, entry: u64) -> us
 // The lines of the table of n entries at byte base.
 fn put_table(out: &mut [u8], at: usize, program: &[u8], name: &[u8], base: usize, n: usize) -> usize
     requires { ⌜ (at ≤ length (now out)) × (n ≤ 1024) × (base + n * 2 ≤ length (now program)) ⌝ }
-    ensures { λ r. ⌜ Put (now (out .entry)) at (concat (tabulate 0 n (λ i. entryLine (now (name .entry)) i (entryAt (now (program .entry)) base i)))) (now (out .exit)) r ⌝ }
+    ensures { λ r. ⌜ Put (now (out .entry)) at (concat (tabulate 0 n (λ i. entryLine (now (name .entry)) i (tableEntry (now (program .entry)) base i)))) (now (out .exit)) r ⌝ }
 {
     let mut p = at;
     let mut i = 0;
@@ -309,8 +310,8 @@ fn put_start(out: &mut [u8], at: usize, start: usize) -> usize
 
 // Code start, instructions, labels, functions.
 pub fn put_program(out: &mut [u8], at: usize, program: &[u8]) -> usize
-    requires { ⌜ (at ≤ length (now out)) × (40960 ≤ length (now program)) × (decodeProgram (now program) ≡ some (programOf (now program))) ⌝ }
-    ensures { λ r. ⌜ Put (now (out .entry)) at (programText (programOf (now (program .entry)))) (now (out .exit)) r ⌝ }
+    requires { ⌜ (at ≤ length (now out)) × (40960 ≤ length (now program)) × (decodeProgram (now program) ≡ some (programIn (now program))) ⌝ }
+    ensures { λ r. ⌜ Put (now (out .entry)) at (programText (programIn (now (program .entry)))) (now (out .exit)) r ⌝ }
 {
     let p = put_start(out, at, program::start_of(program));
     let q = put_code(out, p, program, program::count_of(program));

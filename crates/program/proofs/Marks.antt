@@ -10,9 +10,10 @@ use lib.Dec.{leb, eqb}
 use lib.ListN.{length, getD, set, length-set}
 use lib.Seq.{getD-set-same, getD-set-other}
 use borrow.Author.Tests.{leb-true, eqb-true, eqb-false}
-use Rattle.sifv.specs.Layout.{and-left, and-right}
-use Rattle.records.specs.Fits.{fitsAs, recordAt, recordOf}
-use Rattle.program.specs.Marked.{lblOf, nameOf, marked}
+use Rattle.sifv.specs.laws.Layout.{and-left, and-right}
+use Rattle.records.specs.inner.Fits.{fitsAs, recordOk}
+use Rattle.program.specs.inner.Marked.{lblOf, nameOf, marked}
+use Rattle.opc.specs.inner.Fetch.{recordAt}
 
 -- ---- one entry
 
@@ -62,11 +63,11 @@ module _ (w : ℕ → Bool) (k : ℕ → ℕ) (size n : ℕ) (t₀ : List ℕ) w
 
 -- ---- the places are within the tables
 
-module _ (b : List ℕ) (i : ℕ) (h : recordAt b i ≡ true) where
+module _ (b : List ℕ) (i : ℕ) (h : recordOk b i ≡ true) where
   pub label-small : lblOf b i ≤ 1023
-  label-small = leb-true (lblOf b i) 1023 (and-left (leb (lblOf b i) 1023) (fitsAs (recordOf b i .code) (recordOf b i)) h)
+  label-small = leb-true (lblOf b i) 1023 (and-left (leb (lblOf b i) 1023) (fitsAs (recordAt b i .code) (recordAt b i)) h)
 
-  pub name-small : recordOf b i .code ≡ 16 → nameOf b i ≤ 63
+  pub name-small : recordAt b i .code ≡ 16 → nameOf b i ≤ 63
   name-small q =
-      let e : fitsAs 16 (recordOf b i) ≡ true = subst (λ (o : ℕ). fitsAs o (recordOf b i) ≡ true) q (and-right (leb (lblOf b i) 1023) (fitsAs (recordOf b i .code) (recordOf b i)) h) in
+      let e : fitsAs 16 (recordAt b i) ≡ true = subst (λ (o : ℕ). fitsAs o (recordAt b i) ≡ true) q (and-right (leb (lblOf b i) 1023) (fitsAs (recordAt b i .code) (recordAt b i)) h) in
       leb-true (nameOf b i) 63 (and-left _ _ (and-left _ _ (and-left _ _ e)))

@@ -11,25 +11,23 @@ use lib.ListN.{length, take, drop}
 use lib.Seq.{drop-drop}
 use borrow.Author.Tests.{leb-true, le-leb, lt-leb}
 use Rattle.lent.specs.Bytes.{beValue, part, AreBytes}
-use Rattle.lent.specs.Each.{each-part}
-use Rattle.lent.specs.Parts.{part-part}
-use Rattle.sifv.specs.Layout.{and-left}
+use Rattle.lent.specs.laws.Each.{each-part}
+use Rattle.lent.specs.laws.Parts.{part-part}
+use Rattle.sifv.specs.laws.Layout.{and-left}
 use Rattle.opc.specs.Op.{Instr, label, op, Code}
-use Rattle.opc.specs.Record.{fieldsOf, itemsOf, decodeInstr, when, with}
-use Rattle.opc.specs.RecordRange.{AllSome, when-all, guard-all, with-all}
+use Rattle.opc.specs.Record.{fieldsOf, itemsOf, decodeInstr}
+use Rattle.opc.specs.laws.RecordRange.{AllSome, when-all, guard-all, with-all, any-all}
 use Rattle.tables.specs.Tables.{Program, declares}
 use Rattle.tables.specs.ProgramBytes.{decodeCode, tablesOk, decodeProgram}
-use Rattle.program.specs.Held.{isSome}
-use Rattle.records.specs.Fits.{scan, recordAt, recordOf, pooled, taken, poolFits}
-use Rattle.program.specs.Marked.{labelEntry, functionEntry, sameTable}
+use Rattle.records.specs.inner.Fits.{allFrom, recordOk, pooled, taken, poolFits}
+use Rattle.program.specs.inner.Marked.{labelEntry, functionEntry, sameTable}
 use Rattle.program.proofs.Records.{is-when, is-with, is-guard, is-instr, instr-all}
 use Rattle.program.proofs.Stored.{Spelt, labels-same, functions-same}
+use Rattle.lent.specs.Lists.{when, with}
+use Rattle.program.specs.inner.Held.{isSome}
+use Rattle.opc.specs.inner.Fetch.{recordAt}
 
 -- ---- how many instructions are read
-
-any-all : {A : Type 0} (o : Option A) → AllSome (λ (a : A). a ≡ a) o
-any-all none = tt
-any-all (some a) = refl
 
 count-all : (n : ℕ) (rs : List ℕ) (p : ℕ) (pool : List ℕ) → AllSome (λ (c : Code). length c ≡ n) (decodeCode n rs p pool)
 count-all zero rs p pool = refl
@@ -53,31 +51,31 @@ module _ (b : List ℕ) (bytes : AreBytes b) where
       let e : 16 * i + 16 ≡ 16 * suc i = omega arith in
       drop-drop 16 (16 * i) (part b 0 16384) ∙ ap (λ (k : ℕ). drop k (part b 0 16384)) e
 
-  code-is : (m i p : ℕ) → i + m ≤ 1024 → isSome (decodeCode m (drop (16 * i) (part b 0 16384)) p (part b 16384 16384)) ≡ (scan m i (recordAt b) && poolFits m i p b)
+  code-is : (m i p : ℕ) → i + m ≤ 1024 → isSome (decodeCode m (drop (16 * i) (part b 0 16384)) p (part b 16384 16384)) ≡ (allFrom m i (recordOk b) && poolFits m i p b)
   code-is zero i p h = refl
   code-is (suc m) i p h =
       ap₂ (λ (r d : List ℕ). isSome (with (decodeInstr r p (part b 16384 16384)) (λ j. with (decodeCode m d (p + length (itemsOf (op j))) (part b 16384 16384)) (λ c. some (j ∷ c))))) (record-at i (omega arith)) (record-next i)
       ∙ step (decodeInstr (part b (16 * i) 16) p (part b 16384 16384)) (is-instr b bytes (part b (16 * i) 16) (each-part (16 * i) 16 bytes) p)
       (instr-all b bytes (part b (16 * i) 16) (each-part (16 * i) 16 bytes) p) (λ q. code-is m (suc i) q (omega arith))
     where
-      step : (o : Option Instr) → isSome o ≡ (recordAt b i && pooled (recordOf b i) p b)
-          → AllSome (λ (j : Instr). (label j ≡ fieldsOf (part b (16 * i) 16) .lbl) × (length (itemsOf (op j)) ≡ taken (recordOf b i)) × ((x : ℕ) → declares (op j) x ≡ (eqb (fieldsOf (part b (16 * i) 16) .code) 16 && eqb (fieldsOf (part b (16 * i) 16) .a) x))) o
-          → ((q : ℕ) → isSome (decodeCode m (drop (16 * suc i) (part b 0 16384)) q (part b 16384 16384)) ≡ (scan m (suc i) (recordAt b) && poolFits m (suc i) q b))
+      step : (o : Option Instr) → isSome o ≡ (recordOk b i && pooled (recordAt b i) p b)
+          → AllSome (λ (j : Instr). (label j ≡ fieldsOf (part b (16 * i) 16) .lbl) × (length (itemsOf (op j)) ≡ taken (recordAt b i)) × ((x : ℕ) → declares (op j) x ≡ (eqb (fieldsOf (part b (16 * i) 16) .code) 16 && eqb (fieldsOf (part b (16 * i) 16) .a) x))) o
+          → ((q : ℕ) → isSome (decodeCode m (drop (16 * suc i) (part b 0 16384)) q (part b 16384 16384)) ≡ (allFrom m (suc i) (recordOk b) && poolFits m (suc i) q b))
           → isSome (with o (λ j. with (decodeCode m (drop (16 * suc i) (part b 0 16384)) (p + length (itemsOf (op j))) (part b 16384 16384)) (λ c. some (j ∷ c))))
-          ≡ ((recordAt b i && scan m (suc i) (recordAt b)) && (pooled (recordOf b i) p b && poolFits m (suc i) (p + taken (recordOf b i)) b))
-      step none e q k = cross (recordAt b i) (pooled (recordOf b i) p b) (scan m (suc i) (recordAt b)) (poolFits m (suc i) (p + taken (recordOf b i)) b) false e
+          ≡ ((recordOk b i && allFrom m (suc i) (recordOk b)) && (pooled (recordAt b i) p b && poolFits m (suc i) (p + taken (recordAt b i)) b))
+      step none e q k = cross (recordOk b i) (pooled (recordAt b i) p b) (allFrom m (suc i) (recordOk b)) (poolFits m (suc i) (p + taken (recordAt b i)) b) false e
       step (some j) e q k =
           is-with (decodeCode m (drop (16 * suc i) (part b 0 16384)) (p + length (itemsOf (op j))) (part b 16384 16384)) _ true (λ c. refl)
           ∙ and-true _
           ∙ ap (λ (x : ℕ). isSome (decodeCode m (drop (16 * suc i) (part b 0 16384)) (p + x) (part b 16384 16384))) (q .1)
-          ∙ k (p + taken (recordOf b i))
-          ∙ cross (recordAt b i) (pooled (recordOf b i) p b) (scan m (suc i) (recordAt b)) (poolFits m (suc i) (p + taken (recordOf b i)) b) true e
+          ∙ k (p + taken (recordAt b i))
+          ∙ cross (recordOk b i) (pooled (recordAt b i) p b) (allFrom m (suc i) (recordOk b)) (poolFits m (suc i) (p + taken (recordAt b i)) b) true e
 
   code-spelt : (m i p : ℕ) → i + m ≤ 1024 → AllSome (λ (c : Code). Spelt b c i) (decodeCode m (drop (16 * i) (part b 0 16384)) p (part b 16384 16384))
   code-spelt zero i p h = tt
   code-spelt (suc m) i p h =
       with-all _ _ (decodeInstr (take 16 (drop (16 * i) (part b 0 16384))) p (part b 16384 16384)) _
-      (subst (λ (r : List ℕ). AllSome (λ (j : Instr). (label j ≡ fieldsOf (part b (16 * i) 16) .lbl) × (length (itemsOf (op j)) ≡ taken (recordOf b i)) × ((x : ℕ) → declares (op j) x ≡ (eqb (fieldsOf (part b (16 * i) 16) .code) 16 && eqb (fieldsOf (part b (16 * i) 16) .a) x))) (decodeInstr r p (part b 16384 16384)))
+      (subst (λ (r : List ℕ). AllSome (λ (j : Instr). (label j ≡ fieldsOf (part b (16 * i) 16) .lbl) × (length (itemsOf (op j)) ≡ taken (recordAt b i)) × ((x : ℕ) → declares (op j) x ≡ (eqb (fieldsOf (part b (16 * i) 16) .code) 16 && eqb (fieldsOf (part b (16 * i) 16) .a) x))) (decodeInstr r p (part b 16384 16384)))
       (sym (record-at i (omega arith))) (instr-all b bytes (part b (16 * i) 16) (each-part (16 * i) 16 bytes) p))
       (λ j q. with-all _ (λ (c : Code). Spelt b c (suc i)) (decodeCode m (drop 16 (drop (16 * i) (part b 0 16384))) (p + length (itemsOf (op j))) (part b 16384 16384)) _
       (subst (λ (d : List ℕ). AllSome (λ (c : Code). Spelt b c (suc i)) (decodeCode m d (p + length (itemsOf (op j))) (part b 16384 16384))) (sym (record-next i)) (code-spelt m (suc i) (p + length (itemsOf (op j))) (omega arith)))
@@ -92,7 +90,7 @@ both-all P Q (some a) p q = (p, q)
 -- n instructions, whose code starts at s
 abbrev verdict : List ℕ → ℕ → ℕ → Bool
 verdict b n s =
-    (leb n 1024 && leb s n) && ((scan n 0 (recordAt b) && poolFits n 0 0 b) && (sameTable b 32768 1024 (labelEntry b n) && sameTable b 34816 64 (functionEntry b n)))
+    (leb n 1024 && leb s n) && ((allFrom n 0 (recordOk b) && poolFits n 0 0 b) && (sameTable b 32768 1024 (labelEntry b n) && sameTable b 34816 64 (functionEntry b n)))
 
 module _ (b : List ℕ) (bytes : AreBytes b) (room : 40960 ≤ length b) where
   -- the tables of code that was read
@@ -103,9 +101,9 @@ module _ (b : List ℕ) (bytes : AreBytes b) (room : 40960 ≤ length b) where
       (labels-same b bytes room c few s ∙ ap (λ (k : ℕ). sameTable b 32768 1024 (labelEntry b k)) e)
       (functions-same b bytes room c few s ∙ ap (λ (k : ℕ). sameTable b 34816 64 (functionEntry b k)) e)
 
-  held-is : (n s : ℕ) → n ≤ 1024 → (o : Option Code) → isSome o ≡ (scan n 0 (recordAt b) && poolFits n 0 0 b) → AllSome (λ (c : Code). (length c ≡ n) × Spelt b c 0) o
+  held-is : (n s : ℕ) → n ≤ 1024 → (o : Option Code) → isSome o ≡ (allFrom n 0 (recordOk b) && poolFits n 0 0 b) → AllSome (λ (c : Code). (length c ≡ n) × Spelt b c 0) o
       → isSome {A = Program} (with o (λ c. when (tablesOk b c) (record { code = c; codeStart = s })))
-      ≡ ((scan n 0 (recordAt b) && poolFits n 0 0 b) && (sameTable b 32768 1024 (labelEntry b n) && sameTable b 34816 64 (functionEntry b n)))
+      ≡ ((allFrom n 0 (recordOk b) && poolFits n 0 0 b) && (sameTable b 32768 1024 (labelEntry b n) && sameTable b 34816 64 (functionEntry b n)))
   held-is n s h none e q = ap (λ (x : Bool). x && (sameTable b 32768 1024 (labelEntry b n) && sameTable b 34816 64 (functionEntry b n))) e
   held-is n s h (some c) e q =
       is-when (tablesOk b c) (record { code = c; codeStart = s })
@@ -134,13 +132,13 @@ module _ (b : List ℕ) (bytes : AreBytes b) (room : 40960 ≤ length b) where
     pub over-start : n < s → false ≡ isSome (decodeProgram b)
     over-start h = sym (program-at ∙ rw (lt-leb s n h, and-false (leb n 1024)))
 
-    pub bad-records : {x : Bool} → x ≡ scan n 0 (recordAt b) → x ≡ false → false ≡ isSome (decodeProgram b)
+    pub bad-records : {x : Bool} → x ≡ allFrom n 0 (recordOk b) → x ≡ false → false ≡ isSome (decodeProgram b)
     bad-records e f = sym (program-at ∙ rw (sym e ∙ f) (and-false (leb n 1024 && leb s n)))
 
     pub bad-pool : {x : Bool} → x ≡ poolFits n 0 0 b → x ≡ false → false ≡ isSome (decodeProgram b)
-    bad-pool e f = sym (program-at ∙ rw (sym e ∙ f, and-false (scan n 0 (recordAt b))) (and-false (leb n 1024 && leb s n)))
+    bad-pool e f = sym (program-at ∙ rw (sym e ∙ f, and-false (allFrom n 0 (recordOk b))) (and-false (leb n 1024 && leb s n)))
 
-    pub tables-tell : {x y u v : Bool} → n ≤ 1024 → s ≤ n → x ≡ scan n 0 (recordAt b) → x ≡ true → y ≡ poolFits n 0 0 b → y ≡ true
+    pub tables-tell : {x y u v : Bool} → n ≤ 1024 → s ≤ n → x ≡ allFrom n 0 (recordOk b) → x ≡ true → y ≡ poolFits n 0 0 b → y ≡ true
         → u ≡ sameTable b 32768 1024 (labelEntry b n) → v ≡ sameTable b 34816 64 (functionEntry b n) → (u && v) ≡ isSome (decodeProgram b)
     tables-tell h g ex tx ey ty eu ev =
         ap₂ (λ (x y : Bool). x && y) eu ev ∙ sym (program-at ∙ rw (le-leb n 1024 h, le-leb s n g, sym ex ∙ tx, sym ey ∙ ty))

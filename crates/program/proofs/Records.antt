@@ -11,20 +11,21 @@ use lib.ListN.{length, getD, getElem?, take, drop, length-take, length-map, List
 use lib.Seq.{drop-drop}
 use lib.Ieee.{binary64, ofBits}
 use borrow.Author.Tests.{leb-true, leb-false, le-leb, lt-leb, eqb-true, eqb-false}
-use Rattle.lent.specs.Bytes.{beValue, part, none, more, AreBytes}
-use Rattle.lent.specs.Each.{each-part}
-use Rattle.lent.specs.Parts.{part-part}
-use Rattle.lent.specs.Numbers.{beValue-lt}
+use Rattle.lent.specs.Bytes.{beValue, part, none, AreBytes}
+use Rattle.lent.specs.laws.Each.{each-part, byte-at}
+use Rattle.lent.specs.laws.Parts.{part-part}
+use Rattle.lent.specs.laws.Numbers.{beValue-lt}
 use Rattle.sifv.specs.Value.{Single, Value, One, Arr, Tab, Num, Bl, Null, Str as Text}
 use Rattle.sifv.specs.Slot.{singleOf}
 use Rattle.opc.specs.Op.{Lneg, Nneg, Jmpt, Jmpf}
 use Rattle.opc.specs.Op.{Op, Binary, Unary, Ldc, Ldn, Mv, Ldas, Ldav, Upda, Stc, Stn, Str, JmpCnd, Jmpa, Incrr, Decrr, Fn, Call, FnRet, FnStackPush, FnStackPop, Tbli, Tblg, Nop, Stop, Instr, instr, label, op}
-use Rattle.opc.specs.Record.{binKinds, pick, Fields, fieldsOf, literalItems, itemsOf, when, with, guard, reg, text, lblOk, wordOk, single, itemOf, itemList, itemsAt, literalOf, param, params, decoders, decodeInstr}
-use Rattle.opc.specs.Fetched.{items-law}
-use Rattle.opc.specs.RecordRange.{AllSome, when-all, guard-all, with-all}
+use Rattle.opc.specs.Record.{binKinds, pick, Fields, fieldsOf, literalItems, itemsOf, regOk, textOk, lblOk, wordOk, single, itemOf, itemList, itemsAt, literalOf, param, params, decoders, decodeInstr}
+use Rattle.opc.specs.laws.Fetched.{items-law}
+use Rattle.opc.specs.laws.RecordRange.{AllSome, when-all, guard-all, with-all, any-all}
 use Rattle.tables.specs.Tables.{declares}
-use Rattle.program.specs.Held.{isSome}
-use Rattle.records.specs.Fits.{scan, limitTable, noKind, limitsOf, operandsFit, kindFits, wordFits, singleMost, literalFits, fitsAs, recordFits, entryFits, entryAt, entriesFit, pooledAs, takenAs, pooled, taken}
+use Rattle.records.specs.inner.Fits.{allFrom, limitTable, noKind, limitsOf, operandsFit, kindFits, wordFits, singleMost, literalFits, fitsAs, recordFits, entryFits, entryOk, entriesFit, pooledAs, takenAs, pooled, taken}
+use Rattle.lent.specs.Lists.{when, with, onlyIf}
+use Rattle.program.specs.inner.Held.{isSome}
 
 -- ---- whether there is a result
 
@@ -36,7 +37,7 @@ pub is-with : {A B : Type 0} (m : Option A) (g : A → Option B) (t : Bool) → 
 is-with none g t h = refl
 is-with (some a) g t h = h a
 
-pub is-guard : {A : Type 0} (g : Bool) (o : Option A) (x : Bool) → (g ≡ true → isSome o ≡ x) → isSome (guard g o) ≡ (g && x)
+pub is-guard : {A : Type 0} (g : Bool) (o : Option A) (x : Bool) → (g ≡ true → isSome o ≡ x) → isSome (onlyIf g o) ≡ (g && x)
 is-guard true o x h = h refl
 is-guard false o x h = refl
 
@@ -61,11 +62,6 @@ is-kinds : {A B : Type 0} (l : List A) (k : ℕ) (t : Bool) (g : A → B) → is
 is-kinds l k t g = is-with (pick l k) _ t (λ a. is-when t (g a)) ∙ ap (λ (x : Bool). x && t) (is-pick l k) ∙ and-comm (leb 1 k && leb k (length l)) t
 
 -- ---- bytes
-
-byte-at : {l : List ℕ} → AreBytes l → (i : ℕ) → getD l i 0 ≤ 255
-byte-at none i = omega arith
-byte-at (more p h) zero = omega arith
-byte-at (more p h) (suc i) = byte-at h i
 
 word-small : {e : List ℕ} → AreBytes e → beValue (part e 8 8) ≤ 18446744073709551615
 word-small {e} h =
@@ -134,7 +130,7 @@ module _ (b : List ℕ) (bytes : AreBytes b) where
       let e : p * 16 + 16 ≡ suc p * 16 = omega arith in
       drop-drop 16 (p * 16) (part b 16384 16384) ∙ ap (λ (i : ℕ). drop i (part b 16384 16384)) e
 
-  is-items : (n p : ℕ) → p + n ≤ 1024 → isSome (itemList n (drop (p * 16) (part b 16384 16384))) ≡ scan n p (entryAt 1 4 b)
+  is-items : (n p : ℕ) → p + n ≤ 1024 → isSome (itemList n (drop (p * 16) (part b 16384 16384))) ≡ allFrom n p (entryOk 1 4 b)
   is-items zero p h = refl
   is-items (suc n) p h =
       let r = drop (p * 16) (part b 16384 16384) in
@@ -143,7 +139,7 @@ module _ (b : List ℕ) (bytes : AreBytes b) where
       (ap (λ (e : List ℕ). isSome (itemOf e)) (first-entry p (omega arith)) ∙ is-item (part b (16384 + 16 * p) 16) (each-part (16384 + 16 * p) 16 bytes))
       (ap (λ (e : List ℕ). isSome (itemList n e)) (next-entry p) ∙ is-items n (suc p) (omega arith))
 
-  is-params : (n p : ℕ) → p + n ≤ 1024 → isSome (with (itemList n (drop (p * 16) (part b 16384 16384))) params) ≡ scan n p (entryAt 2 2 b)
+  is-params : (n p : ℕ) → p + n ≤ 1024 → isSome (with (itemList n (drop (p * 16) (part b 16384 16384))) params) ≡ allFrom n p (entryOk 2 2 b)
   is-params zero p h = refl
   is-params (suc n) p h =
       let r = drop (p * 16) (part b 16384 16384) in
@@ -165,17 +161,17 @@ module _ (b : List ℕ) (bytes : AreBytes b) where
         snd true y e = e
         snd false y e = let z : _≡_ {A = ℕ} 0 1 = cc in absurd (omega arith)
 
-    is-items-at : isSome (itemsAt f p (part b 16384 16384)) ≡ ((eqb (f .word) p && leb (p + f .len) 1024) && scan (f .len) p (entryAt 1 4 b))
+    is-items-at : isSome (itemsAt f p (part b 16384 16384)) ≡ ((eqb (f .word) p && leb (p + f .len) 1024) && allFrom (f .len) p (entryOk 1 4 b))
     unfolding span
     is-items-at = is-guard span (itemList (f .len) (drop (p * 16) (part b 16384 16384))) _ (λ g. is-items (f .len) p (span-ends g))
 
-    is-params-at : isSome (with (itemsAt f p (part b 16384 16384)) params) ≡ ((eqb (f .word) p && leb (p + f .len) 1024) && scan (f .len) p (entryAt 2 2 b))
+    is-params-at : isSome (with (itemsAt f p (part b 16384 16384)) params) ≡ ((eqb (f .word) p && leb (p + f .len) 1024) && allFrom (f .len) p (entryOk 2 2 b))
     unfolding span
     is-params-at =
         guarded span (itemList (f .len) (drop (p * 16) (part b 16384 16384)))
         ∙ is-guard span (with (itemList (f .len) (drop (p * 16) (part b 16384 16384))) params) _ (λ g. is-params (f .len) p (span-ends g))
       where
-        guarded : (g : Bool) (o : Option (List Single)) → isSome (with (guard g o) params) ≡ isSome (guard g (with o params))
+        guarded : (g : Bool) (o : Option (List Single)) → isSome (with (onlyIf g o) params) ≡ isSome (onlyIf g (with o params))
         guarded true o = refl
         guarded false o = refl
 
@@ -194,13 +190,13 @@ module _ (b : List ℕ) (bytes : AreBytes b) where
     is-literal h = by-kind (eqb (f .kind) 5) (eqb (f .kind) 6) refl refl
       where
         by-kind : (s t : Bool) → eqb (f .kind) 5 ≡ s → eqb (f .kind) 6 ≡ t
-            → isSome (cond s (guard (leb (f .len) 24) (with (itemsAt f p (part b 16384 16384)) (λ l. some (Arr l)))) (cond t (when (eqb (f .len) 0) (Tab [])) (with (single (f .kind) (f .word)) (λ s. some (One s)))))
+            → isSome (cond s (onlyIf (leb (f .len) 24) (with (itemsAt f p (part b 16384 16384)) (λ l. some (Arr l)))) (cond t (when (eqb (f .len) 0) (Tab [])) (with (single (f .kind) (f .word)) (λ s. some (One s)))))
             ≡ (((leb 1 (f .kind) && leb (f .kind) 6) && (leb (f .word) (singleMost (f .kind)) && (not t || eqb (f .len) 0))) && cond s (entriesFit 24 1 4 f p b) true)
         by-kind true t e g =
             let q : f .kind ≡ 5 = eqb-true (f .kind) 5 e in
             let u : t ≡ false = sym g ∙ rw q in
             is-guard (leb (f .len) 24) (with (itemsAt f p (part b 16384 16384)) (λ l. some (Arr l))) _ (λ n. is-with (itemsAt f p (part b 16384 16384)) _ true (λ l. refl) ∙ and-true (isSome (itemsAt f p (part b 16384 16384))) ∙ is-items-at)
-            ∙ sym (rw (u, q, le-leb (f .word) 18446744073709551615 h) (and-assoc (leb (f .len) 24) (eqb (f .word) p && leb (p + f .len) 1024) (scan (f .len) p (entryAt 1 4 b))))
+            ∙ sym (rw (u, q, le-leb (f .word) 18446744073709551615 h) (and-assoc (leb (f .len) 24) (eqb (f .word) p && leb (p + f .len) 1024) (allFrom (f .len) p (entryOk 1 4 b))))
         by-kind false true e g =
             let q : f .kind ≡ 6 = eqb-true (f .kind) 6 g in
             is-when (eqb (f .len) 0) (Tab []) ∙ sym (rw (q, le-leb (f .word) 18446744073709551615 h) (and-true (eqb (f .len) 0)))
@@ -222,7 +218,7 @@ module _ (b : List ℕ) (bytes : AreBytes b) where
     literal-takes = by-kind (eqb (f .kind) 5) (eqb (f .kind) 6)
       where
         by-kind : (s t : Bool) → AllSome (λ (v : Value). length (literalItems v) ≡ cond s (f .len) 0)
-            (cond s (guard (leb (f .len) 24) (with (itemsAt f p (part b 16384 16384)) (λ l. some (Arr l)))) (cond t (when (eqb (f .len) 0) (Tab [])) (with (single (f .kind) (f .word)) (λ s. some (One s)))))
+            (cond s (onlyIf (leb (f .len) 24) (with (itemsAt f p (part b 16384 16384)) (λ l. some (Arr l)))) (cond t (when (eqb (f .len) 0) (Tab [])) (with (single (f .kind) (f .word)) (λ s. some (One s)))))
         by-kind true t =
             guard-all _ (leb (f .len) 24) (with (itemsAt f p (part b 16384 16384)) (λ l. some (Arr l)))
             (λ e. with-all _ (λ (l : List Single). length l ≡ f .len) (itemsAt f p (part b 16384 16384)) (λ l. some (Arr l)) items-take (λ l g. g))
@@ -239,10 +235,6 @@ module _ (b : List ℕ) (bytes : AreBytes b) where
     data Agree : ℕ → List (Option Op) → Type 0 where
       end : {o : ℕ} → Agree o []
       _▹_ : {o : ℕ} {m : Option Op} {ms : List (Option Op)} → Agrees o m → Agree (suc o) ms → Agree o (m ∷ ms)
-
-    any-all : {A : Type 0} (o : Option A) → AllSome (λ (a : A). a ≡ a) o
-    any-all none = tt
-    any-all (some a) = refl
 
     -- one that holds no items
     plain : (o : ℕ) (t : Bool) (i : Op) → t ≡ (fitsAs o f && pooledAs o f p b) → length (itemsOf i) ≡ takenAs o f → ((x : ℕ) → declares i x ≡ (eqb o 16 && eqb (f .a) x)) → Agrees o (when t i)
@@ -276,16 +268,16 @@ module _ (b : List ℕ) (bytes : AreBytes b) where
       h0 : leb 0 (f .kind) ≡ true
       h0 = le-leb 0 (f .kind) (omega arith)
 
-      declares-fn : Agrees 16 (with (itemsAt f p (part b 16384 16384)) (λ l. with (params l) (λ ps. when (text (f .a)) (Fn (f .a) ps))))
+      declares-fn : Agrees 16 (with (itemsAt f p (part b 16384 16384)) (λ l. with (params l) (λ ps. when (textOk (f .a)) (Fn (f .a) ps))))
       declares-fn = (
-        fns (itemsAt f p (part b 16384 16384)) ∙ ap (λ (t : Bool). t && text (f .a)) is-params-at ∙ regroup (leb (f .a) 63) (eqb (f .word) p && leb (p + f .len) 1024) (scan (f .len) p (entryAt 2 2 b)),
+        fns (itemsAt f p (part b 16384 16384)) ∙ ap (λ (t : Bool). t && textOk (f .a)) is-params-at ∙ regroup (leb (f .a) 63) (eqb (f .word) p && leb (p + f .len) 1024) (allFrom (f .len) p (entryOk 2 2 b)),
         with-all _ (λ (l : List Single). length l ≡ f .len) (itemsAt f p (part b 16384 16384)) _ items-take
-            (λ l q. with-all _ (λ (ps : List ℕ). length ps ≡ length l) (params l) _ (counted l) (λ ps r. when-all _ (text (f .a)) (Fn (f .a) ps) (λ _. (length-map ps Text ∙ r ∙ q, λ x. refl)))),
+            (λ l q. with-all _ (λ (ps : List ℕ). length ps ≡ length l) (params l) _ (counted l) (λ ps r. when-all _ (textOk (f .a)) (Fn (f .a) ps) (λ _. (length-map ps Text ∙ r ∙ q, λ x. refl)))),
       )
         where
-          fns : (m : Option (List Single)) → isSome (with m (λ l. with (params l) (λ ps. when (text (f .a)) (Fn (f .a) ps)))) ≡ (isSome (with m params) && text (f .a))
+          fns : (m : Option (List Single)) → isSome (with m (λ l. with (params l) (λ ps. when (textOk (f .a)) (Fn (f .a) ps)))) ≡ (isSome (with m params) && textOk (f .a))
           fns none = refl
-          fns (some l) = is-with (params l) _ (text (f .a)) (λ ps. is-when (text (f .a)) (Fn (f .a) ps))
+          fns (some l) = is-with (params l) _ (textOk (f .a)) (λ ps. is-when (textOk (f .a)) (Fn (f .a) ps))
 
           regroup : (t g s : Bool) → ((g && s) && t) ≡ ((((t && (leb (f .b) 255 && leb (f .c) 255)) && (leb 0 (f .kind) && leb (f .kind) 255)) && true) && ((leb (f .len) 255 && g) && s))
           regroup t g s = rw (hb, hc, h0, hk, hn) (flip t g s)
@@ -300,28 +292,28 @@ module _ (b : List ℕ) (bytes : AreBytes b) where
 
       all : Agree 1 (decoders f p (part b 16384 16384))
       all =
-          kinds 1 binKinds (reg (f .a) && (reg (f .b) && reg (f .c))) (λ k. Binary k (f .a) (f .b) (f .c)) (simp and-true) (λ k. refl) (λ k x. refl)
-          ▹ kinds 2 (Lneg ∷ Nneg ∷ []) (reg (f .a) && reg (f .b)) (λ k. Unary k (f .a) (f .b)) (simp (hc, and-true)) (λ k. refl) (λ k x. refl)
-          ▹ literals 3 (reg (f .a)) (λ v. Ldc (f .a) v) (literal-test (reg (f .a)) (leb (f .b) 255) (leb (f .c) 255) _ _ _ hb hc (is-literal hw)) (λ v q. q) (λ v x. refl)
-          ▹ plain 4 (reg (f .a) && text (f .b)) (Ldn (f .a) (f .b)) (simp (hc, h0, hk, and-true)) refl (λ x. refl)
-          ▹ plain 5 (reg (f .a) && reg (f .b)) (Mv (f .a) (f .b)) (simp (hc, h0, hk, and-true)) refl (λ x. refl)
-          ▹ plain 6 (text (f .a) && reg (f .b)) (Ldas (f .a) (f .b)) (simp (hc, h0, hk, and-true)) refl (λ x. refl)
-          ▹ plain 7 (text (f .a) && (reg (f .b) && reg (f .c))) (Ldav (f .a) (f .b) (f .c)) (simp (h0, hk, and-true)) refl (λ x. refl)
-          ▹ plain 8 (text (f .a) && (reg (f .b) && reg (f .c))) (Upda (f .a) (f .b) (f .c)) (simp (h0, hk, and-true)) refl (λ x. refl)
-          ▹ literals 9 (text (f .a)) (λ v. Stc v (f .a)) (literal-test (text (f .a)) (leb (f .b) 255) (leb (f .c) 255) _ _ _ hb hc (is-literal hw)) (λ v q. q) (λ v x. refl)
-          ▹ plain 10 (text (f .a) && text (f .b)) (Stn (f .a) (f .b)) (simp (hc, h0, hk, and-true)) refl (λ x. refl)
-          ▹ plain 11 (reg (f .a) && text (f .b)) (Str (f .a) (f .b)) (simp (hc, h0, hk, and-true)) refl (λ x. refl)
-          ▹ kinds 12 (Jmpt ∷ Jmpf ∷ []) (reg (f .a) && lblOk (f .word)) (λ k. JmpCnd k (f .a) (f .word)) (jmp (reg (f .a)) (lblOk (f .word)) (leb 1 (f .kind) && leb (f .kind) 2)) (λ k. refl) (λ k x. refl)
+          kinds 1 binKinds (regOk (f .a) && (regOk (f .b) && regOk (f .c))) (λ k. Binary k (f .a) (f .b) (f .c)) (simp and-true) (λ k. refl) (λ k x. refl)
+          ▹ kinds 2 (Lneg ∷ Nneg ∷ []) (regOk (f .a) && regOk (f .b)) (λ k. Unary k (f .a) (f .b)) (simp (hc, and-true)) (λ k. refl) (λ k x. refl)
+          ▹ literals 3 (regOk (f .a)) (λ v. Ldc (f .a) v) (literal-test (regOk (f .a)) (leb (f .b) 255) (leb (f .c) 255) _ _ _ hb hc (is-literal hw)) (λ v q. q) (λ v x. refl)
+          ▹ plain 4 (regOk (f .a) && textOk (f .b)) (Ldn (f .a) (f .b)) (simp (hc, h0, hk, and-true)) refl (λ x. refl)
+          ▹ plain 5 (regOk (f .a) && regOk (f .b)) (Mv (f .a) (f .b)) (simp (hc, h0, hk, and-true)) refl (λ x. refl)
+          ▹ plain 6 (textOk (f .a) && regOk (f .b)) (Ldas (f .a) (f .b)) (simp (hc, h0, hk, and-true)) refl (λ x. refl)
+          ▹ plain 7 (textOk (f .a) && (regOk (f .b) && regOk (f .c))) (Ldav (f .a) (f .b) (f .c)) (simp (h0, hk, and-true)) refl (λ x. refl)
+          ▹ plain 8 (textOk (f .a) && (regOk (f .b) && regOk (f .c))) (Upda (f .a) (f .b) (f .c)) (simp (h0, hk, and-true)) refl (λ x. refl)
+          ▹ literals 9 (textOk (f .a)) (λ v. Stc v (f .a)) (literal-test (textOk (f .a)) (leb (f .b) 255) (leb (f .c) 255) _ _ _ hb hc (is-literal hw)) (λ v q. q) (λ v x. refl)
+          ▹ plain 10 (textOk (f .a) && textOk (f .b)) (Stn (f .a) (f .b)) (simp (hc, h0, hk, and-true)) refl (λ x. refl)
+          ▹ plain 11 (regOk (f .a) && textOk (f .b)) (Str (f .a) (f .b)) (simp (hc, h0, hk, and-true)) refl (λ x. refl)
+          ▹ kinds 12 (Jmpt ∷ Jmpf ∷ []) (regOk (f .a) && lblOk (f .word)) (λ k. JmpCnd k (f .a) (f .word)) (jmp (regOk (f .a)) (lblOk (f .word)) (leb 1 (f .kind) && leb (f .kind) 2)) (λ k. refl) (λ k x. refl)
           ▹ plain 13 (lblOk (f .word)) (Jmpa (f .word)) (simp (ha, hb, hc, h0, hk, and-true)) refl (λ x. refl)
-          ▹ plain 14 (reg (f .a)) (Incrr (f .a)) (simp (hb, hc, h0, hk, and-true)) refl (λ x. refl)
-          ▹ plain 15 (reg (f .a)) (Decrr (f .a)) (simp (hb, hc, h0, hk, and-true)) refl (λ x. refl)
+          ▹ plain 14 (regOk (f .a)) (Incrr (f .a)) (simp (hb, hc, h0, hk, and-true)) refl (λ x. refl)
+          ▹ plain 15 (regOk (f .a)) (Decrr (f .a)) (simp (hb, hc, h0, hk, and-true)) refl (λ x. refl)
           ▹ declares-fn
-          ▹ plain 17 (text (f .a) && leb (f .word) 255) (Call (f .a) (f .word)) (simp (hb, hc, h0, hk, and-true)) refl (λ x. refl)
+          ▹ plain 17 (textOk (f .a) && leb (f .word) 255) (Call (f .a) (f .word)) (simp (hb, hc, h0, hk, and-true)) refl (λ x. refl)
           ▹ plain 18 true FnRet (simp (ha, hb, hc, h0, hk, and-true)) refl (λ x. refl)
-          ▹ plain 19 (reg (f .a)) (FnStackPush (f .a)) (simp (hb, hc, h0, hk, and-true)) refl (λ x. refl)
-          ▹ plain 20 (reg (f .a)) (FnStackPop (f .a)) (simp (hb, hc, h0, hk, and-true)) refl (λ x. refl)
-          ▹ plain 21 (text (f .a) && (text (f .b) && reg (f .c))) (Tbli (f .a) (f .b) (f .c)) (simp (h0, hk, and-true)) refl (λ x. refl)
-          ▹ plain 22 (text (f .a) && (text (f .b) && reg (f .c))) (Tblg (f .a) (f .b) (f .c)) (simp (h0, hk, and-true)) refl (λ x. refl)
+          ▹ plain 19 (regOk (f .a)) (FnStackPush (f .a)) (simp (hb, hc, h0, hk, and-true)) refl (λ x. refl)
+          ▹ plain 20 (regOk (f .a)) (FnStackPop (f .a)) (simp (hb, hc, h0, hk, and-true)) refl (λ x. refl)
+          ▹ plain 21 (textOk (f .a) && (textOk (f .b) && regOk (f .c))) (Tbli (f .a) (f .b) (f .c)) (simp (h0, hk, and-true)) refl (λ x. refl)
+          ▹ plain 22 (textOk (f .a) && (textOk (f .b) && regOk (f .c))) (Tblg (f .a) (f .b) (f .c)) (simp (h0, hk, and-true)) refl (λ x. refl)
           ▹ plain 23 true Nop (simp (ha, hb, hc, h0, hk, and-true)) refl (λ x. refl)
           ▹ plain 24 true Stop (simp (ha, hb, hc, h0, hk, and-true)) refl (λ x. refl)
           ▹ end

@@ -9,16 +9,17 @@ use lib.Dec.{T, ltb, eqb}
 use lib.ListN.{length, getD}
 use borrow.Author.Tests.{eqb-true, eqb-false, eq-eqb, ne-eqb, lt-ltb}
 use Rattle.lent.specs.Bytes.{beValue, beBytes, part, sameBytes, concat, AreBytes}
-use Rattle.lent.specs.Each.{each-part}
-use Rattle.lent.specs.Parts.{length-part, part-add}
-use Rattle.lent.specs.Numbers.{beValue-beBytes, beBytes-beValue, length-beBytes}
-use Rattle.lent.specs.Same.{eq-same, ne-same}
+use Rattle.lent.specs.laws.Each.{each-part}
+use Rattle.lent.specs.laws.Parts.{length-part, part-add}
+use Rattle.lent.specs.laws.Numbers.{beValue-beBytes, beBytes-beValue, length-beBytes}
+use Rattle.lent.specs.laws.Same.{eq-same, ne-same}
 use Rattle.opc.specs.Op.{label, op, Code}
 use Rattle.tables.specs.Tables.{declares, entered, labelAt, declared, functionAt}
-use Rattle.tables.specs.ProgramBytes.{tabulate, each, indexWord, labelBytes, functionBytes}
-use Rattle.records.specs.Fits.{scan}
-use Rattle.program.specs.Marked.{lblOf, nameOf, isFn, enters, marked, labelEntry, functionEntry, sameTable}
+use Rattle.tables.specs.ProgramBytes.{indexWord, labelBytes, functionBytes}
+use Rattle.records.specs.inner.Fits.{allFrom}
+use Rattle.program.specs.inner.Marked.{lblOf, nameOf, isFn, enters, marked, labelEntry, functionEntry, sameTable}
 use Rattle.records.proofs.Scan.{scan-same}
+use Rattle.lent.specs.Lists.{tabulate, each}
 
 -- ---- a table in its bytes
 
@@ -41,7 +42,7 @@ same-two p v h e l = by-test (eqb (beValue p + 1) (suc v)) refl
 
 module _ (b : List ℕ) (bytes : AreBytes b) (at : ℕ) (h : ℕ → ℕ) where
   table-from : (n i : ℕ) → at + 2 * (i + n) ≤ length b → ((l : ℕ) → i ≤ l → l < i + n → h l < 65536)
-      → sameBytes (part b (at + 2 * i) (2 * n)) (concat (tabulate i n (λ l. beBytes 2 (h l)))) ≡ scan n i (λ l. eqb (beValue (part b (at + 2 * l) 2) + 1) (suc (h l)))
+      → sameBytes (part b (at + 2 * i) (2 * n)) (concat (tabulate i n (λ l. beBytes 2 (h l)))) ≡ allFrom n i (λ l. eqb (beValue (part b (at + 2 * l) 2) + 1) (suc (h l)))
   table-from zero i r g = refl
   table-from (suc n) i r g =
       let p = part b (at + 2 * i) 2 in
@@ -71,7 +72,7 @@ pub table-made : (b : List ℕ) (at size : ℕ) (t : List ℕ) (g : ℕ → ℕ)
 unfolding sameTable
 table-made b at size t g e k h =
     e
-    ∙ ap (λ (n : ℕ). scan n 0 (λ l. eqb (beValue (part b (at + 2 * l) 2) + 1) (getD t l 0))) k
+    ∙ ap (λ (n : ℕ). allFrom n 0 (λ l. eqb (beValue (part b (at + 2 * l) 2) + 1) (getD t l 0))) k
     ∙ scan-same _ _ size 0 (λ l p q. ap (eqb (beValue (part b (at + 2 * l) 2) + 1)) (h l (omega arith)))
 
 -- ---- the tables of code whose records are those from i on

@@ -1,2 +1,2 @@
-pub mod Held
-pub mod Marked
+pub mod inner
+pub mod laws

@@ -7,9 +7,9 @@ ghost use lib.Dec.{ltb, eqb};
 ghost use lib.ListN.{length, getD, set};
 ghost use Rattle.tables.specs.Tables.{Program};
 ghost use Rattle.tables.specs.ProgramBytes.{decodeProgram};
-ghost use Rattle.records.specs.Fits.{scan, recordAt};
-ghost use Rattle.program.specs.Marked.{marked, lblOf, enters, labelEntry, nameOf, isFn, functionEntry, sameTable};
-ghost use Rattle.program.specs.Held.{isSome};
+ghost use Rattle.records.specs.inner.Fits.{allFrom, recordOk};
+ghost use Rattle.program.specs.inner.Marked.{marked, lblOf, enters, labelEntry, nameOf, isFn, functionEntry, sameTable};
+ghost use Rattle.program.specs.inner.Held.{isSome};
 
 // The label of record i.
 fn label(program: &[u8], i: usize) -> u64
@@ -33,7 +33,7 @@ fn mark(t: &mut [u16], new: bool, k: usize, i: usize)
 
 // Label 0 to index 0, then each label to the last index that enters it from another label.
 fn fill_labels(program: &[u8], n: usize, t: &mut [u16])
-    requires { ⌜ (40960 ≤ length (now program)) × (n ≤ 1024) × (scan n 0 (recordAt (now program)) ≡ true) × (length (now t) ≡ 1024) ⌝ }
+    requires { ⌜ (40960 ≤ length (now program)) × (n ≤ 1024) × (allFrom n 0 (recordOk (now program)) ≡ true) × (length (now t) ≡ 1024) ⌝ }
     ensures { λ _. ⌜ (length (now (t .exit)) ≡ 1024) × ((l : ℕ) → l < 1024 → getD (now (t .exit)) l 0 ≡ marked (enters (now (program .entry))) (lblOf (now (program .entry))) l n 0 (cond (ltb 0 n && eqb 0 l) 2 (getD (now (t .entry)) l 0))) ⌝ }
 {
     mark(t, 0 < n, 0, 0);
@@ -49,7 +49,7 @@ fn fill_labels(program: &[u8], n: usize, t: &mut [u16])
 
 // Each function to the last index that declares it.
 fn fill_functions(program: &[u8], n: usize, t: &mut [u16])
-    requires { ⌜ (40960 ≤ length (now program)) × (n ≤ 1024) × (scan n 0 (recordAt (now program)) ≡ true) × (length (now t) ≡ 64) ⌝ }
+    requires { ⌜ (40960 ≤ length (now program)) × (n ≤ 1024) × (allFrom n 0 (recordOk (now program)) ≡ true) × (length (now t) ≡ 64) ⌝ }
     ensures { λ _. ⌜ (length (now (t .exit)) ≡ 64) × ((x : ℕ) → x < 64 → getD (now (t .exit)) x 0 ≡ marked (isFn (now (program .entry))) (nameOf (now (program .entry))) x n 0 (getD (now (t .entry)) x 0)) ⌝ }
 {
     let mut i = 0;
@@ -75,7 +75,7 @@ fn same_table(program: &[u8], at: usize, t: &[u16]) -> bool
 }
 
 fn labels_ok(program: &[u8], n: usize) -> bool
-    requires { ⌜ (40960 ≤ length (now program)) × (n ≤ 1024) × (scan n 0 (recordAt (now program)) ≡ true) ⌝ }
+    requires { ⌜ (40960 ≤ length (now program)) × (n ≤ 1024) × (allFrom n 0 (recordOk (now program)) ≡ true) ⌝ }
     ensures { λ r. ⌜ r ≡ sameTable (now (program .entry)) 32768 1024 (labelEntry (now (program .entry)) n) ⌝ }
 {
     let mut t = [1u16; 1024];
@@ -84,7 +84,7 @@ fn labels_ok(program: &[u8], n: usize) -> bool
 }
 
 fn functions_ok(program: &[u8], n: usize) -> bool
-    requires { ⌜ (40960 ≤ length (now program)) × (n ≤ 1024) × (scan n 0 (recordAt (now program)) ≡ true) ⌝ }
+    requires { ⌜ (40960 ≤ length (now program)) × (n ≤ 1024) × (allFrom n 0 (recordOk (now program)) ≡ true) ⌝ }
     ensures { λ r. ⌜ r ≡ sameTable (now (program .entry)) 34816 64 (functionEntry (now (program .entry)) n) ⌝ }
 {
     let mut t = [1u16; 64];

@@ -8,8 +8,8 @@ use native.Mathlib.Omega.{arith}
 use lib.Dec.{leb}
 use lib.ListN.{getD}
 use Rattle.lent.specs.Bytes.{beValue, part}
-use Rattle.lent.specs.Parts.{getD-part, part-part}
-use Rattle.records.specs.Fits.{singleMost, entryFits}
+use Rattle.lent.specs.laws.Parts.{getD-part, part-part}
+use Rattle.records.specs.inner.Fits.{singleMost, entryFits}
 
 module _ (b : List ℕ) (at : ℕ) where
   pub first-byte : getD b at 0 ≡ getD (part b at 16) 0 0

@@ -9,9 +9,10 @@ use native.Mathlib.Numerals.{add-one}
 use native.Mathlib.Omega.{arith}
 use lib.Dec.{leb, eqb}
 use borrow.Author.Tests.{leb-true, le-leb}
-use Rattle.sifv.specs.Layout.{and-left, and-right}
+use Rattle.sifv.specs.laws.Layout.{and-left, and-right}
 use Rattle.opc.specs.Record.{Fields}
-use Rattle.records.specs.Fits.{scan, recordOf, entryAt, spanFits, entriesFit, isArray, pooled, taken, poolFits}
+use Rattle.records.specs.inner.Fits.{allFrom, entryOk, spanFits, entriesFit, isArray, pooled, taken, poolFits}
+use Rattle.opc.specs.inner.Fetch.{recordAt}
 
 pub span-ends : (most n w p : ℕ) → spanFits most n w p ≡ true → p + n ≤ 1024
 span-ends most n w p e =
@@ -23,17 +24,17 @@ module _ (b : List ℕ) (f : Fields) (most lo hi p : ℕ) {n w : ℕ} {s : Bool}
   span-is : spanFits most (f .len) (f .word) p ≡ s
   span-is = ap₂ (λ (x y : ℕ). spanFits most x y p) (sym en) (sym ew) ∙ sym es
 
-  entries-are : {fit : Bool} → s ≡ true → fit ≡ scan n p (entryAt lo hi b) → entriesFit most lo hi f p b ≡ fit
-  entries-are t e = ap₂ (λ (x y : Bool). x && y) (span-is ∙ t) (ap (λ (x : ℕ). scan x p (entryAt lo hi b)) (sym en) ∙ sym e)
+  entries-are : {fit : Bool} → s ≡ true → fit ≡ allFrom n p (entryOk lo hi b) → entriesFit most lo hi f p b ≡ fit
+  entries-are t e = ap₂ (λ (x y : Bool). x && y) (span-is ∙ t) (ap (λ (x : ℕ). allFrom x p (entryOk lo hi b)) (sym en) ∙ sym e)
 
-  pub span-fits : {fit : Bool} → s ≡ true → fit ≡ scan n p (entryAt lo hi b) → fit ≡ true → p + n ≡ cond (entriesFit most lo hi f p b) (p + f .len) 1025
+  pub span-fits : {fit : Bool} → s ≡ true → fit ≡ allFrom n p (entryOk lo hi b) → fit ≡ true → p + n ≡ cond (entriesFit most lo hi f p b) (p + f .len) 1025
   span-fits t e q = ap (λ (x : ℕ). p + x) en ∙ ap (λ (x : Bool). cond x (p + f .len) 1025) (sym (entries-are t e ∙ q))
 
-  pub span-unfit : {fit : Bool} → s ≡ true → fit ≡ scan n p (entryAt lo hi b) → fit ≡ false → 1025 ≡ cond (entriesFit most lo hi f p b) (p + f .len) 1025
+  pub span-unfit : {fit : Bool} → s ≡ true → fit ≡ allFrom n p (entryOk lo hi b) → fit ≡ false → 1025 ≡ cond (entriesFit most lo hi f p b) (p + f .len) 1025
   span-unfit t e q = ap (λ (x : Bool). cond x (p + f .len) 1025) (sym (entries-are t e ∙ q))
 
   pub span-fails : s ≡ false → 1025 ≡ cond (entriesFit most lo hi f p b) (p + f .len) 1025
-  span-fails t = ap (λ (x : Bool). cond (x && scan (f .len) p (entryAt lo hi b)) (p + f .len) 1025) (sym (span-is ∙ t))
+  span-fails t = ap (λ (x : Bool). cond (x && allFrom (f .len) p (entryOk lo hi b)) (p + f .len) 1025) (sym (span-is ∙ t))
 
 -- ---- by what a record is
 
@@ -54,7 +55,7 @@ behind : (b : List ℕ) (f : Fields) (p : ℕ) → pooled f p b ≡ true → (p 
 behind b f p = by-test (isArray (f .code) (f .kind)) (eqb (f .code) 16)
   where
     ends : (most lo hi : ℕ) → entriesFit most lo hi f p b ≡ true → p + f .len ≤ 1024
-    ends most lo hi e = span-ends most (f .len) (f .word) p (and-left (spanFits most (f .len) (f .word) p) (scan (f .len) p (entryAt lo hi b)) e)
+    ends most lo hi e = span-ends most (f .len) (f .word) p (and-left (spanFits most (f .len) (f .word) p) (allFrom (f .len) p (entryOk lo hi b)) e)
 
     by-test : (s t : Bool) → cond s (entriesFit 24 1 4 f p b) (cond t (entriesFit 255 2 2 f p b) true) ≡ true → (p + cond s (f .len) (cond t (f .len) 0) ≤ 1024) ⊎ (cond s (f .len) (cond t (f .len) 0) ≡ 0)
     by-test true t e = inl (ends 24 1 4 e)
@@ -70,29 +71,29 @@ module _ (b : List ℕ) (n i : ℕ) where
   pub pool-first : poolFits n 0 0 b ≡ (leb 0 1024 && poolFits (n - 0) 0 0 b)
   pool-first = ap (λ (m : ℕ). poolFits m 0 0 b) (sym (sub-zero n))
 
-  pub pool-turn : {w : Bool} (p : ℕ) {r : ℕ} → i < n → w ≡ (leb p 1024 && poolFits (n - i) i p b) → r ≡ cond (pooled (recordOf b i) p b) (p + taken (recordOf b i)) 1025
+  pub pool-turn : {w : Bool} (p : ℕ) {r : ℕ} → i < n → w ≡ (leb p 1024 && poolFits (n - i) i p b) → r ≡ cond (pooled (recordAt b i) p b) (p + taken (recordAt b i)) 1025
       → w ≡ (leb r 1024 && poolFits (n - (i + 1)) (i + 1) r b)
   pool-turn p {r} h e g =
       let k : n - i ≡ suc (n - (i + 1)) = omega arith in
       e
       ∙ ap (λ (m : ℕ). leb p 1024 && poolFits m i p b) k
-      ∙ ap (λ (j : ℕ). leb p 1024 && (pooled (recordOf b i) p b && poolFits (n - (i + 1)) j (p + taken (recordOf b i)) b)) (sym (add-one i))
-      ∙ onwards (pooled (recordOf b i) p b) (leb p 1024) (kept b (recordOf b i) p)
+      ∙ ap (λ (j : ℕ). leb p 1024 && (pooled (recordAt b i) p b && poolFits (n - (i + 1)) j (p + taken (recordAt b i)) b)) (sym (add-one i))
+      ∙ onwards (pooled (recordAt b i) p b) (leb p 1024) (kept b (recordAt b i) p)
       ∙ ap (λ (x : ℕ). leb x 1024 && poolFits (n - (i + 1)) (i + 1) x b) (sym g)
     where
-      onwards : (t s : Bool) → (t ≡ true → leb (p + taken (recordOf b i)) 1024 ≡ s)
-          → (s && (t && poolFits (n - (i + 1)) (i + 1) (p + taken (recordOf b i)) b))
-          ≡ (leb (cond t (p + taken (recordOf b i)) 1025) 1024 && poolFits (n - (i + 1)) (i + 1) (cond t (p + taken (recordOf b i)) 1025) b)
-      onwards true s q = ap (λ (x : Bool). x && poolFits (n - (i + 1)) (i + 1) (p + taken (recordOf b i)) b) (sym (q refl))
+      onwards : (t s : Bool) → (t ≡ true → leb (p + taken (recordAt b i)) 1024 ≡ s)
+          → (s && (t && poolFits (n - (i + 1)) (i + 1) (p + taken (recordAt b i)) b))
+          ≡ (leb (cond t (p + taken (recordAt b i)) 1025) 1024 && poolFits (n - (i + 1)) (i + 1) (cond t (p + taken (recordAt b i)) 1025) b)
+      onwards true s q = ap (λ (x : Bool). x && poolFits (n - (i + 1)) (i + 1) (p + taken (recordAt b i)) b) (sym (q refl))
       onwards false true q = refl
       onwards false false q = refl
 
-  pub pool-small : (p : ℕ) {r : ℕ} → p ≤ 1025 → r ≡ cond (pooled (recordOf b i) p b) (p + taken (recordOf b i)) 1025 → r ≤ 1025
-  pool-small p {r} h g = by-test (pooled (recordOf b i) p b) refl g
+  pub pool-small : (p : ℕ) {r : ℕ} → p ≤ 1025 → r ≡ cond (pooled (recordAt b i) p b) (p + taken (recordAt b i)) 1025 → r ≤ 1025
+  pool-small p {r} h g = by-test (pooled (recordAt b i) p b) refl g
     where
-      by-test : (t : Bool) → pooled (recordOf b i) p b ≡ t → r ≡ cond t (p + taken (recordOf b i)) 1025 → r ≤ 1025
+      by-test : (t : Bool) → pooled (recordAt b i) p b ≡ t → r ≡ cond t (p + taken (recordAt b i)) 1025 → r ≤ 1025
       by-test false q e = omega arith
-      by-test true q e = ⊎-elim (λ x. omega arith) (λ x. omega arith) (behind b (recordOf b i) p q)
+      by-test true q e = ⊎-elim (λ x. omega arith) (λ x. omega arith) (behind b (recordAt b i) p q)
 
   pub pool-end : {w : Bool} (p : ℕ) → n ≤ i → w ≡ (leb p 1024 && poolFits (n - i) i p b) → leb p 1024 ≡ w
   pool-end p h e = let k : n - i ≡ 0 = omega arith in sym (e ∙ ap (λ (m : ℕ). leb p 1024 && poolFits m i p b) k ∙ and-true (leb p 1024))

@@ -3,8 +3,8 @@ ghost use mathlib.Core.Path.{_≡_};
 ghost use mathlib.Core.Bool.{true, cond};
 ghost use Prim.Native.Nat.{_+_, _*_, _≤_, _<_};
 ghost use lib.ListN.{length};
-ghost use Rattle.opc.specs.Fetch.{told};
-ghost use Rattle.records.specs.Fits.{scan, limitsOf, operandsFit, kindFits, wordFits, singleMost, isLiteral, literalFits, recordFits, recordOf, recordAt, isArray, entryAt, spanFits, entriesFit, pooled, taken, poolFits};
+ghost use Rattle.opc.specs.inner.Fetch.{fieldsTold, recordAt};
+ghost use Rattle.records.specs.inner.Fits.{allFrom, limitsOf, operandsFit, kindFits, wordFits, singleMost, isLiteral, literalFits, recordFits, recordOk, isArray, entryOk, spanFits, entriesFit, pooled, taken, poolFits};
 
 // What an operation allows, in one number: a byte each, from the lowest, for the largest operand
 // a, b, c, the least and the largest kind; then 3 bytes for the largest number (ffffff: any). What
@@ -93,7 +93,7 @@ fn literal_ok(code: u8, kind: u8, len: u8, word: u64) -> bool
 
 // Whether a record is in range; its items and parameters are looked at apart.
 fn record_ok(f: opc::Fields) -> bool
-    ensures { λ r. ⌜ r ≡ recordFits (told f) ⌝ }
+    ensures { λ r. ⌜ r ≡ recordFits (fieldsTold f) ⌝ }
 {
     let m = limits(f.code);
     let fields = operands_ok(f.a, f.b, f.c, m) & kind_ok(f.kind, m);
@@ -105,7 +105,7 @@ fn record_ok(f: opc::Fields) -> bool
 // Whether the first n records are.
 pub fn records_ok(program: &[u8], n: usize) -> bool
     requires { ⌜ (40960 ≤ length (now program)) × (n ≤ 1024) ⌝ }
-    ensures { λ r. ⌜ r ≡ scan n 0 (recordAt (now (program .entry))) ⌝ }
+    ensures { λ r. ⌜ r ≡ allFrom n 0 (recordOk (now (program .entry))) ⌝ }
 {
     let mut ok = true;
     let mut i = 0;
@@ -119,7 +119,7 @@ pub fn records_ok(program: &[u8], n: usize) -> bool
 // Whether the entry k of the pool has a kind from least to most, and a number of that kind.
 fn entry_ok(program: &[u8], k: usize, least: u8, most: u8) -> bool
     requires { ⌜ (40960 ≤ length (now program)) × (k < 1024) ⌝ }
-    ensures { λ r. ⌜ r ≡ entryAt least most (now (program .entry)) k ⌝ }
+    ensures { λ r. ⌜ r ≡ entryOk least most (now (program .entry)) k ⌝ }
 {
     let at = 16384 + 16 * k;
     let kind = program[at];
@@ -129,7 +129,7 @@ fn entry_ok(program: &[u8], k: usize, least: u8, most: u8) -> bool
 // Whether the n entries from `from` on have.
 fn entries_ok(program: &[u8], from: usize, n: usize, least: u8, most: u8) -> bool
     requires { ⌜ (40960 ≤ length (now program)) × (from + n ≤ 1024) ⌝ }
-    ensures { λ r. ⌜ r ≡ scan n from (entryAt least most (now (program .entry))) ⌝ }
+    ensures { λ r. ⌜ r ≡ allFrom n from (entryOk least most (now (program .entry))) ⌝ }
 {
     let end = from + n;
     let mut ok = true;
@@ -153,7 +153,7 @@ fn span_ok(most: usize, n: usize, start: u64, next: usize) -> bool
 // begin, or 1,025, where the pool has ended and no entries fit.
 fn entries(program: &[u8], i: usize, most: usize, lo: u8, hi: u8, next: usize) -> usize
     requires { ⌜ (40960 ≤ length (now program)) × (i < 1024) × (next ≤ 1025) ⌝ }
-    ensures { λ r. ⌜ r ≡ cond (entriesFit most lo hi (recordOf (now (program .entry)) i) next (now (program .entry))) (next + recordOf (now (program .entry)) i .len) 1025 ⌝ }
+    ensures { λ r. ⌜ r ≡ cond (entriesFit most lo hi (recordAt (now (program .entry)) i) next (now (program .entry))) (next + recordAt (now (program .entry)) i .len) 1025 ⌝ }
 {
     let at = 16 * i;
     let n = program[at + 7] as usize;
@@ -169,7 +169,7 @@ fn entries(program: &[u8], i: usize, most: usize, lo: u8, hi: u8, next: usize) -
 // The entries of record i: an array's items, a function's parameters.
 fn pooled(program: &[u8], i: usize, next: usize) -> usize
     requires { ⌜ (40960 ≤ length (now program)) × (i < 1024) × (next ≤ 1025) ⌝ }
-    ensures { λ r. ⌜ r ≡ cond (pooled (recordOf (now (program .entry)) i) next (now (program .entry))) (next + taken (recordOf (now (program .entry)) i)) 1025 ⌝ }
+    ensures { λ r. ⌜ r ≡ cond (pooled (recordAt (now (program .entry)) i) next (now (program .entry))) (next + taken (recordAt (now (program .entry)) i)) 1025 ⌝ }
 {
     let at = 16 * i;
     let code = program[at];

@@ -1,3 +1,3 @@
 pub mod Report
-pub mod Fields
-pub mod Told
+pub mod inner
+pub mod laws

@@ -5,21 +5,21 @@ ghost use Prim.Native.Nat.{_≤_};
 ghost use lib.ListN.{length, drop};
 ghost use Rattle.lent.specs.Bytes.{beBytes};
 ghost use Rattle.report.specs.Report.{signedBytes};
-ghost use Rattle.report.specs.Fields.{lineOf, fieldBytes, told};
+ghost use Rattle.report.specs.inner.Fields.{lineAt, reportFields, reportOf};
 use execute::RuntimeErr;
 use run::Answer;
 
 // A stop's line, in two's complement.
 fn line(start: u64, pos: u64) -> u64
     requires { ⌜ (start ≤ 1024) × (pos ≤ 1024) ⌝ }
-    ensures { λ r. ⌜ beBytes 8 r ≡ signedBytes (lineOf start pos) ⌝ }
+    ensures { λ r. ⌜ beBytes 8 r ≡ signedBytes (lineAt start pos) ⌝ }
 {
     std::num::wrapping_sub_u64(pos + 1, start)
 }
 
 fn put_fields(out: &mut [u8], answer: u64, line: u64, e: RuntimeErr, took: u64)
     requires { ⌜ 48 ≤ length (now out) ⌝ }
-    ensures { λ _. ⌜ now (out .exit) ≡ fieldBytes answer (beBytes 8 line) e took ++ drop 48 (now (out .entry)) ⌝ }
+    ensures { λ _. ⌜ now (out .exit) ≡ reportFields answer (beBytes 8 line) e took ++ drop 48 (now (out .entry)) ⌝ }
 {
     lent::put_u8(out, 0, answer);
     lent::put_u8(out, 1, e.number);
@@ -45,7 +45,7 @@ fn no_stop() -> RuntimeErr
 // What a run of a program that starts at `start` came to at a position, after so many steps.
 pub fn write_report(out: &mut [u8], start: u64, answer: Answer, pos: usize, took: u64)
     requires { ⌜ (48 ≤ length (now out)) × (start ≤ 1024) × (pos ≤ 1024) ⌝ }
-    ensures { λ _. ⌜ now (out .exit) ≡ told start answer pos took ++ drop 48 (now (out .entry)) ⌝ }
+    ensures { λ _. ⌜ now (out .exit) ≡ reportOf start answer pos took ++ drop 48 (now (out .entry)) ⌝ }
 {
     match answer {
         Answer::Done => put_fields(out, 0, 0, no_stop(), took),

@@ -8,7 +8,7 @@ use lib.Dec.{ltb}
 use lib.ListN.{length, getD, set}
 use borrow.Author.Tests.{ltb-true, ltb-false}
 use Rattle.lent.specs.Bytes.{part, splice}
-use Rattle.lent.specs.Parts.{length-part, length-splice, part-one, part-add, splice-one, splice-append}
+use Rattle.lent.specs.laws.Parts.{length-part, length-splice, part-one, part-add, splice-one, splice-append}
 
 -- key i of n more
 pub keys-turn : (t₀ s : List ℕ) (a n i : ℕ) {t t' : List ℕ} → length t₀ ≡ 256 → a + 16 ≤ length s → i < 16 → n ≤ 16 → t ≡ splice t₀ 232 (part s a (min i n))

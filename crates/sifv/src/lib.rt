@@ -10,10 +10,11 @@ ghost use lib.Dec.{leb, ltb};
 ghost use lib.ListN.{length, getD, set};
 ghost use Rattle.sifv.specs.Value.{One, Num, Bl};
 ghost use Rattle.lent.specs.Bytes.{part, splice};
-ghost use Rattle.sifv.specs.Slot.{zeros, kindOf, wordOf, singleOf, singleOk, singlesOk, contents, encodeSlot, decodeSlot, slotOk};
-ghost use Rattle.sifv.specs.Seen.{shown, seen, plain, bare, headBytes, kindIn, wordIn, Kept, itemAt, setItem, boxBytes, keysOk, oneOk, arrOk, tabOk};
-ghost use Rattle.sifv.specs.Formed.{Formed, lenIn};
-ghost use Rattle.sifv.specs.StoredForm.{storedOf};
+ghost use Rattle.sifv.specs.Slot.{singleKind, wordOf, singleOf, singleOk, singlesOk, contents, encodeSlot, decodeSlot, slotOk};
+ghost use Rattle.sifv.specs.inner.Seen.{shown, seen, singleSeen, bare, headBytes, kindIn, wordIn, ReadBack, slotItem, setItem, boxBytes, keysOk, oneOk, arrOk, tabOk};
+ghost use Rattle.sifv.specs.inner.StoredForm.{storedOf};
+ghost use Rattle.lent.specs.Lists.{zeros};
+ghost use Rattle.sifv.specs.inner.Forms.{Formed, lenIn};
 
 // A value as the program holds it; the contents of an array and a table stay in their slot.
 // Empty: an empty register, or a name that is not set.
@@ -64,7 +65,7 @@ fn flag(b: bool) -> u64
 }
 
 fn raw_word(v: SifVal) -> u64
-    ensures { λ r. ⌜ (r ≡ wordIn v) × (singleOf (kindOf (plain v)) r ≡ plain v) ⌝ }
+    ensures { λ r. ⌜ (r ≡ wordIn v) × (singleOf (singleKind (singleSeen v)) r ≡ singleSeen v) ⌝ }
 {
     match v {
         SifVal::Empty => 0,
@@ -86,7 +87,7 @@ fn whole(w: u64) -> u64
 // The number of a value. The second fact is for callers: it follows from v only where its number
 // fits its format, which a caller need not show.
 pub fn word_of(v: SifVal) -> u64
-    ensures { λ r. ⌜ (r ≡ wordIn v) × Kept (plain v) ⌝ }
+    ensures { λ r. ⌜ (r ≡ wordIn v) × ReadBack (singleSeen v) ⌝ }
 {
     whole(raw_word(v))
 }
@@ -143,7 +144,7 @@ pub fn put_over(s: &mut [u8], at: usize, v: SifVal)
 // Item i of the slot at byte at.
 pub fn get_item(s: &[u8], at: usize, i: usize) -> SifVal
     requires { ⌜ (at + 256 ≤ length (now s)) × (i < 24) ⌝ }
-    ensures { λ r. ⌜ r ≡ shown (itemAt (part (now (s .entry)) at 256) i) ⌝ }
+    ensures { λ r. ⌜ r ≡ shown (slotItem (part (now (s .entry)) at 256) i) ⌝ }
 {
     let kind = lent::wide(s[at + (16 + i)]);
     single(kind, lent::get_u64(s, at + (40 + i * 8)))
@@ -151,7 +152,7 @@ pub fn get_item(s: &[u8], at: usize, i: usize) -> SifVal
 
 // The kind of a single value.
 pub fn item_kind(v: SifVal) -> u8
-    ensures { λ r. ⌜ r ≡ kindOf (plain v) ⌝ }
+    ensures { λ r. ⌜ r ≡ singleKind (singleSeen v) ⌝ }
 {
     match v {
         SifVal::Empty => 4,
@@ -167,7 +168,7 @@ pub fn item_kind(v: SifVal) -> u8
 // A single value, written as item i of the slot at byte at.
 pub fn put_item(s: &mut [u8], at: usize, i: usize, v: SifVal)
     requires { ⌜ (at + 256 ≤ length (now s)) × (i < 24) ⌝ }
-    ensures { λ _. ⌜ (now (s .exit) ≡ splice (now (s .entry)) at (setItem (part (now (s .entry)) at 256) i (plain v))) × Kept (plain v) ⌝ }
+    ensures { λ _. ⌜ (now (s .exit) ≡ splice (now (s .entry)) at (setItem (part (now (s .entry)) at 256) i (singleSeen v))) × ReadBack (singleSeen v) ⌝ }
 {
     let k = at + (16 + i);
     s[k] = item_kind(v);
@@ -182,7 +183,7 @@ fn both(a: bool, b: bool) -> bool
 
 // Whether a value may be stored as a single one: a text's number is below 64.
 pub fn single_ok(v: SifVal) -> bool
-    ensures { λ r. ⌜ r ≡ singleOk (plain v) ⌝ }
+    ensures { λ r. ⌜ r ≡ singleOk (singleSeen v) ⌝ }
 {
     match v {
         SifVal::Empty => true,
@@ -423,7 +424,7 @@ pub fn stored_word(kind: u8, word: u64) -> u64
 // Item i of the slot at byte at, as it is stored.
 pub fn item(s: &[u8], at: usize, i: usize) -> Stored
     requires { ⌜ (at + 256 ≤ length (now s)) × Formed (part (now s) at 256) × (i < lenIn (seen (decodeSlot (part (now s) at 256)))) ⌝ }
-    ensures { λ r. ⌜ r ≡ storedOf (shown (itemAt (part (now (s .entry)) at 256) i)) ⌝ }
+    ensures { λ r. ⌜ r ≡ storedOf (shown (slotItem (part (now (s .entry)) at 256) i)) ⌝ }
 {
     Stored {
         kind: s[at + (16 + i)],
@@ -478,7 +479,7 @@ pub fn move_to(s: &mut [u8], from: usize, to: usize)
 // The single value of the slot at byte from becomes item i of the slot at byte at.
 pub fn store_item(s: &mut [u8], at: usize, i: usize, from: usize)
     requires { ⌜ (at + 256 ≤ length (now s)) × (from + 256 ≤ length (now s)) × (from % 256 ≡ at % 256) × (i < 24) × Formed (part (now s) from 256) × (0 < kindIn (seen (decodeSlot (part (now s) from 256)))) × (kindIn (seen (decodeSlot (part (now s) from 256))) ≤ 4) ⌝ }
-    ensures { λ _. ⌜ now (s .exit) ≡ splice (now (s .entry)) at (setItem (part (now (s .entry)) at 256) i (plain (seen (decodeSlot (part (now (s .entry)) from 256))))) ⌝ }
+    ensures { λ _. ⌜ now (s .exit) ≡ splice (now (s .entry)) at (setItem (part (now (s .entry)) at 256) i (singleSeen (seen (decodeSlot (part (now (s .entry)) from 256))))) ⌝ }
 {
     lent::move_u64(s, from + 8, at + (40 + i * 8));
     s[at + (16 + i)] = s[from];

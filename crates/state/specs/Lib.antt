@@ -1,5 +1,2 @@
-pub mod Checks
-pub mod Fields
-pub mod Marks
-pub mod Starts
-pub mod Whole
+pub mod laws
+pub mod inner

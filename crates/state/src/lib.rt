@@ -7,10 +7,10 @@ ghost use lib.ListN.{length, drop};
 ghost use Rattle.tables.specs.ProgramBytes.{decodeProgram};
 ghost use Rattle.vm.specs.Machine as Machine;
 ghost use Rattle.vm.specs.StateBytes.{encodeState, stateOk};
-ghost use Rattle.execute.specs.Programs.{programOf};
-ghost use Rattle.execute.specs.View.{Holds, view};
-ghost use Rattle.run.specs.Runs.{at};
-ghost use Rattle.state.specs.Fields.{locAt, progressAt, kindBit, markOf, placeOk, frameOk, slotsOk, stackOk, framesOk, fnsOk, smallOk};
+ghost use Rattle.execute.specs.inner.View.{Holds, view};
+ghost use Rattle.run.specs.inner.Runs.{stateOf};
+ghost use Rattle.state.specs.inner.Fields.{locAt, progressAt, kindBit, markOf, placeOk, frameOk, slotsOk, stackOk, framesOk, fnsOk, smallOk};
+ghost use Rattle.execute.specs.inner.ProgramView.{programIn};
 use execute::Loc;
 use run::Progress;
 
@@ -183,7 +183,7 @@ pub fn state_ok(state: &[u8], n: u64) -> bool
 // Mark, and the progress, which a run keeps elsewhere.
 pub fn write_back(state: &mut [u8], p: Progress)
     requires { ⌜ Holds (now state) (view (now state) (p .loc)) × (p .loc .depth ≤ 24) × (p .loc .calls ≤ 24) ⌝ }
-    ensures { λ _. ⌜ now (state .exit) ≡ encodeState (at (now (state .entry)) p) ++ drop 47360 (now (state .entry)) ⌝ }
+    ensures { λ _. ⌜ now (state .exit) ≡ encodeState (stateOf (now (state .entry)) p) ++ drop 47360 (now (state .entry)) ⌝ }
 {
     let loc = p.loc;
     lent::put_u64(state, MARK, mark_of(state));
@@ -197,8 +197,8 @@ pub fn write_back(state: &mut [u8], p: Progress)
 
 // The state of an accepted program that has not begun: its function table, and its first position.
 pub fn start(program: &[u8], state: &mut [u8])
-    requires { ⌜ (40960 ≤ length (now program)) × (47360 ≤ length (now state)) × (decodeProgram (now program) ≡ some (programOf (now program))) ⌝ }
-    ensures { λ _. ⌜ now (state .exit) ≡ encodeState (Machine.started (programOf (now (program .entry)))) ++ drop 47360 (now (state .entry)) ⌝ }
+    requires { ⌜ (40960 ≤ length (now program)) × (47360 ≤ length (now state)) × (decodeProgram (now program) ≡ some (programIn (now program))) ⌝ }
+    ensures { λ _. ⌜ now (state .exit) ≡ encodeState (Machine.started (programIn (now (program .entry)))) ++ drop 47360 (now (state .entry)) ⌝ }
 {
     lent::clear(state, 47360);
     lent::copy(state, FNS, &program[34816..34944]);

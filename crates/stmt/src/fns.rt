@@ -7,15 +7,14 @@ ghost use lib.ListN.{length, getD, replicate};
 ghost use Rattle.lent.specs.Bytes.{splice};
 ghost use Rattle.opc.specs.Op.{Fn, Str, FnStackPop, instr};
 ghost use Rattle.compiler.specs.Lower.{Place, Reg, push, lowerPops};
-ghost use Rattle.emit.specs.Run.{after, kept, put, Ready, Did};
-ghost use Rattle.emit.specs.Made.{ReadsAt};
-ghost use Rattle.stmt.specs.Parts.{PushesFn, Pops, FnHead, statements};
-ghost use Rattle.stmt.specs.Fns.{items};
+ghost use Rattle.emit.specs.inner.Run.{afterEvents, kept, putInstr, Ready, Did};
+ghost use Rattle.emit.specs.inner.Made.{ReadsAt};
+ghost use Rattle.stmt.specs.inner.Parts.{PushesFn, Pops, FnHead, statements, paramItems};
 
 // The parameters as items of the pool, from entry k on.
 fn param_items(names: &[u8], k: usize, out: &mut [u8])
     requires { ⌜ (k + length (now names) ≤ 1024) × (40960 ≤ length (now out)) ⌝ }
-    ensures { λ _. ⌜ now (out .exit) ≡ splice (now (out .entry)) (16384 + 16 * k) (items (now (names .entry))) ⌝ }
+    ensures { λ _. ⌜ now (out .exit) ≡ splice (now (out .entry)) (16384 + 16 * k) (paramItems (now (names .entry))) ⌝ }
 {
     let mut i = 0;
     while i < names.len() {
@@ -28,7 +27,7 @@ fn param_items(names: &[u8], k: usize, out: &mut [u8])
 fn keep_fn(keep: bool, lbl: u64, low: emit::Low, name: u8, names: &[u8], out: &mut [u8])
     requires { ⌜ (keep ≡ true → (low .recs + 1 ≤ 1024) × (low .items + length (now names) ≤ 1024)) ⌝ }
     requires { ⌜ (length (now names) ≤ 255) × (40960 ≤ length (now out)) ⌝ }
-    ensures { λ _. ⌜ now (out .exit) ≡ cond keep (put (instr lbl (Fn name (now (names .entry)))) low (now (out .entry))) (now (out .entry)) ⌝ }
+    ensures { λ _. ⌜ now (out .exit) ≡ cond keep (putInstr (instr lbl (Fn name (now (names .entry)))) low (now (out .entry))) (now (out .entry)) ⌝ }
 {
     if keep {
         param_items(names, low.items, out);
@@ -72,7 +71,7 @@ fn push_fn(
 // n registers.
 fn nextregs(n: usize, low: emit::Low) -> emit::Low
     requires { ⌜ low .reg ≤ 96 ⌝ }
-    ensures { λ r. ⌜ r ≡ after (replicate n Reg) low ⌝ }
+    ensures { λ r. ⌜ r ≡ afterEvents (replicate n Reg) low ⌝ }
 {
     let mut q = low;
     let mut i = 0;

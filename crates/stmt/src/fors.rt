@@ -1,13 +1,13 @@
 // What a For goes over, and what stands before and behind its Block (`forstmt` of stmt.rs).
 ghost use mathlib.Core.Path.{_≡_};
 ghost use Prim.Native.Nat.{_+_, _<_, _^_};
-ghost use Rattle.emit.specs.Run.{Ready};
-ghost use Rattle.emit.specs.Made.{ReadsAt, Goes};
-ghost use Rattle.stmt.specs.Parts.{Emitted, forHead, forTail, nameOf, sources};
+ghost use Rattle.emit.specs.inner.Run.{Ready};
+ghost use Rattle.emit.specs.inner.Made.{ReadsAt, Goes};
+ghost use Rattle.stmt.specs.inner.Parts.{Emitted, forHead, forTail, sourceText, sources};
 
 // The name, which for a call is text 0, `fortmp`.
 pub fn source_name(kind: u8, x: u8) -> u8
-    ensures { λ r. ⌜ r ≡ nameOf kind x ⌝ }
+    ensures { λ r. ⌜ r ≡ sourceText kind x ⌝ }
 {
     if kind == 21 { x } else { 0 }
 }

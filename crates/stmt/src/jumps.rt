@@ -5,8 +5,8 @@ ghost use Prim.Native.Nat.{_+_, _≤_, _<_, _^_};
 ghost use lib.ListN.{length};
 ghost use Rattle.opc.specs.Op.{Jmpf, JmpCnd, Jmpa, Nop};
 ghost use Rattle.compiler.specs.Lower.{prev, push};
-ghost use Rattle.emit.specs.Run.{Ready};
-ghost use Rattle.stmt.specs.Parts.{Emitted, retarget, endLabel};
+ghost use Rattle.emit.specs.inner.Run.{Ready};
+ghost use Rattle.stmt.specs.inner.Parts.{Emitted, retarget, endLabel};
 
 // The target of the jump that was pushed between a and b.
 pub fn update_op_at(a: emit::Low, b: emit::Low, lblidx: u64, out: &mut [u8])

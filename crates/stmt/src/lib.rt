@@ -14,9 +14,9 @@ ghost use Rattle.ast.specs.Flat.{flat, entryBytes, bodyBytes};
 ghost use Rattle.ast.specs.Limits.{numbersFit};
 ghost use Rattle.compiler.specs.Lower.{lowerTree};
 ghost use Rattle.compiler.specs.Within.{StmtsIn};
-ghost use Rattle.emit.specs.Run.{Ready, Did};
-ghost use Rattle.emit.specs.Made.{ReadsAt, Goes};
-ghost use Rattle.stmt.specs.Parts.{statements, lists, bodies as blockBodies, arms, rests};
+ghost use Rattle.emit.specs.inner.Run.{Ready, Did};
+ghost use Rattle.emit.specs.inner.Made.{ReadsAt, Goes};
+ghost use Rattle.stmt.specs.inner.Parts.{statements, lists, bodies as blockBodies, arms, rests};
 
 // One statement.
 fn block(contents: &[u8], bodies: &[u8], keep: bool, p: emit::Done, out: &mut [u8]) -> emit::Done

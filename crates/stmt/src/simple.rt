@@ -4,9 +4,9 @@ ghost use mathlib.Core.List.{[], _∷_};
 ghost use lib.ListN.{getD};
 ghost use Rattle.opc.specs.Op.{FnRet};
 ghost use Rattle.compiler.specs.Lower.{push};
-ghost use Rattle.emit.specs.Run.{Ready};
-ghost use Rattle.emit.specs.Made.{ReadsAt, Goes};
-ghost use Rattle.stmt.specs.Parts.{Emitted, statements};
+ghost use Rattle.emit.specs.inner.Run.{Ready};
+ghost use Rattle.emit.specs.inner.Made.{ReadsAt, Goes};
+ghost use Rattle.stmt.specs.inner.Parts.{Emitted, statements};
 
 fn fn_ret(keep: bool, p: emit::Done, out: &mut [u8]) -> emit::Done
     requires { ⌜ Ready (p .low) (now out) ⌝ }

@@ -1,5 +1,3 @@
 pub mod Text
 pub mod Put
-pub mod PutLaws
-pub mod Digits
-pub mod Joined
+pub mod laws

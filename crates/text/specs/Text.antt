@@ -1,8 +1,8 @@
 -- Words, numbers and values as bytes of text: document 01, "The listing program". Definitions only.
-use Prim.Native.Nat.{ℕ, zero, suc, _+_, _*_, _/_, _%_, _^_}
+use Prim.Native.Nat.{ℕ, zero, suc, _+_, _/_, _%_, _^_}
 use Prim.Native.String.{String, len, charAt}
 use Prim.Native.Char.{code}
-use mathlib.Core.Bool.{Bool, cond}
+use mathlib.Core.Bool.{cond}
 use mathlib.Core.List.{List, [], _∷_, _++_, map}
 use lib.Dec.{ltb}
 use lib.Ieee.{binary64, toBits}
@@ -51,9 +51,9 @@ joined s (a ∷ []) = a
 joined s (a ∷ (b ∷ l)) = a ++ (s ++ joined s (b ∷ l))
 
 -- what stands before text number i of them: the separator, but before the first nothing
-abbrev pub gap : List ℕ → ℕ → List ℕ
-gap s zero = []
-gap s (suc i) = s
+abbrev pub separator : List ℕ → ℕ → List ℕ
+separator s zero = []
+separator s (suc i) = s
 
 -- "`Arr:` or `Tab:` and the items in brackets, commas between"
 abbrev pub valueText : Value → List ℕ
@@ -66,9 +66,9 @@ abbrev pub words : String → List ℕ → List (List ℕ)
 words s ns = ascii s ∷ map decimal ns
 
 -- numbers as a line's further fields
-abbrev pub fields : List ℕ → List ℕ
-fields [] = []
-fields (n ∷ ns) = ascii " " ++ (decimal n ++ fields ns)
+abbrev pub numberFields : List ℕ → List ℕ
+numberFields [] = []
+numberFields (n ∷ ns) = ascii " " ++ (decimal n ++ numberFields ns)
 
 -- a line: fields with one blank between, and the line's end
 abbrev pub lineOf : List (List ℕ) → List ℕ

@@ -4,8 +4,8 @@ ghost use mathlib.Core.List.{[], _∷_, _++_};
 ghost use Prim.Native.Nat.{_-_, _^_, _≤_, _<_};
 ghost use lib.ListN.{length};
 ghost use Rattle.sifv.specs.Value.{Num, Str, Bl, Null};
-ghost use Rattle.sifv.specs.Seen.{plain};
-ghost use Rattle.text.specs.Text.{ascii, digits, decimal, hexDigit, hex, singleText, gap};
+ghost use Rattle.sifv.specs.inner.Seen.{singleSeen};
+ghost use Rattle.text.specs.Text.{ascii, digits, decimal, hexDigit, hex, singleText, separator};
 ghost use Rattle.text.specs.Put.{Put};
 use sifv::SifVal;
 
@@ -99,7 +99,7 @@ pub fn put_field(out: &mut [u8], at: usize, n: u64) -> usize
 // The comma before item i.
 pub fn put_gap(out: &mut [u8], at: usize, i: usize) -> usize
     requires { ⌜ at ≤ length (now out) ⌝ }
-    ensures { λ r. ⌜ Put (now (out .entry)) at (gap (ascii ",") i) (now (out .exit)) r ⌝ }
+    ensures { λ r. ⌜ Put (now (out .entry)) at (separator (ascii ",") i) (now (out .exit)) r ⌝ }
 {
     if i == 0 {
         return at;
@@ -145,7 +145,7 @@ fn put_null(out: &mut [u8], at: usize) -> usize
 // A single value, as the enum shows it.
 pub fn put_single(out: &mut [u8], at: usize, v: SifVal) -> usize
     requires { ⌜ at ≤ length (now out) ⌝ }
-    ensures { λ r. ⌜ Put (now (out .entry)) at (singleText (plain v)) (now (out .exit)) r ⌝ }
+    ensures { λ r. ⌜ Put (now (out .entry)) at (singleText (singleSeen v)) (now (out .exit)) r ⌝ }
 {
     match v {
         SifVal::Empty => put_null(out, at),

@@ -1,2 +1,2 @@
-pub mod SlotText
-pub mod SlotTextLaws
+pub mod inner
+pub mod laws

@@ -5,10 +5,10 @@ ghost use lib.ListN.{length, getD};
 ghost use Rattle.lent.specs.Bytes.{part};
 ghost use Rattle.sifv.specs.Value.{entry};
 ghost use Rattle.sifv.specs.Slot.{contents, decodeSlot};
-ghost use Rattle.sifv.specs.Seen.{itemAt, entriesIn};
+ghost use Rattle.sifv.specs.inner.Seen.{slotItem, entriesIn};
 ghost use Rattle.text.specs.Text.{ascii, singleText, entryText, joined};
 ghost use Rattle.text.specs.Put.{Put};
-ghost use Rattle.values.specs.SlotText.{slotText};
+ghost use Rattle.values.specs.inner.SlotText.{slotText};
 use sifv::SifVal;
 
 // The first n items of the array in the slot at byte from, commas between.
@@ -29,7 +29,7 @@ fn put_items(out: &mut [u8], at: usize, state: &[u8], from: usize, n: usize) -> 
 // Entry i of the table in the slot at byte from.
 fn put_entry(out: &mut [u8], at: usize, state: &[u8], from: usize, i: usize) -> usize
     requires { ⌜ (at ≤ length (now out)) × (from + 256 ≤ length (now state)) × (i < 16) ⌝ }
-    ensures { λ r. ⌜ Put (now (out .entry)) at (entryText (entry (getD (part (now (state .entry)) from 256) (232 + i) 0) (itemAt (part (now (state .entry)) from 256) i))) (now (out .exit)) r ⌝ }
+    ensures { λ r. ⌜ Put (now (out .entry)) at (entryText (entry (getD (part (now (state .entry)) from 256) (232 + i) 0) (slotItem (part (now (state .entry)) from 256) i))) (now (out .exit)) r ⌝ }
 {
     let key = lent::wide(state[from + (232 + i)]);
     let p = text::put_decimal(out, at, key);

@@ -6,8 +6,7 @@ use mathlib.Core.Bool.{true, false}
 use mathlib.Core.List.{List, [], _∷_}
 use mathlib.Core.Option.{Option, none, some}
 use lib.Ieee.{eq, ofInt, ofBits, toBits, binary64}
-use Rattle.numeric.specs.Index.{indexOf}
-use Rattle.sifv.specs.Value.{Value, One, Arr, Tab, Single, Num, Str, Bl, Null}
+use Rattle.sifv.specs.Value.{Value, One, Arr, Tab, Num, Str, Bl, Null}
 use Rattle.ast.specs.Tree.{Plus, EqEq, Lit, Val, Text, Truth, Literal, Name, BinaryExpr, VarAssign, Expression, Array, ArrayAccess, VarInit, ExprStmt, IfStmt, ForStmt, OverName, Else, Stmt, Stmts, noStmts, moreStmts}
 use Rattle.compiler.specs.Lower.{lowerTree, programOf}
 use Rattle.vm.specs.RuntimeErr.{InvalidName}
@@ -15,6 +14,7 @@ use Rattle.vm.specs.Machine.{Stopped}
 use Rattle.walk.specs.Walk.{walk, walkCount, walkNames, walkEnd}
 use Rattle.walk.specs.Bound.{bound}
 use Rattle.walk.specs.Runs.{runs}
+use Rattle.numeric.specs.Index.{indexOf}
 
 abbrev one : Lit
 one = Val 0x3ff0000000000000

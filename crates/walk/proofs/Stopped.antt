@@ -13,7 +13,8 @@ use Rattle.vm.specs.Operation.{Names}
 use Rattle.vm.specs.Machine.{Stopped}
 use Rattle.walk.specs.Walk.{walk}
 use Rattle.walk.specs.Runs.{runs}
-use Rattle.walk.specs.Theorems.{Served, any-runs}
+use Rattle.walk.specs.laws.Theorems.{any-runs}
+use Rattle.walk.specs.Statements.{Served}
 
 abbrev script : Stmts
 script = moreStmts (VarInit 2 (Expression (Name 1))) (moreStmts (ForStmt 3 4 (OverName 2) noStmts) noStmts)

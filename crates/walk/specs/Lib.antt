@@ -1,11 +1,6 @@
 pub mod Walk
 pub mod Bound
-pub mod Small
-pub mod Parts
-pub mod ShortArrays
 pub mod Runs
-pub mod Theorems
-pub mod Simulation
-pub mod Bounded
-pub mod BoundSize
-pub mod BoundByNodes
+pub mod Statements
+pub mod Cost
+pub mod laws

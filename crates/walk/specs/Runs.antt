@@ -1,5 +1,5 @@
 -- A list of runs of a started program, one after the other, and how much of them a walk asks for: document 01, "Running" and "The walk". Definitions only.
-use Prim.Native.Nat.{ℕ, zero, suc, _+_}
+use Prim.Native.Nat.{ℕ, zero, suc}
 use mathlib.Core.List.{List, [], _∷_}
 use mathlib.Core.Option.{Option, none, some}
 use Rattle.tables.specs.Tables.{Program}
@@ -7,9 +7,9 @@ use Rattle.vm.specs.Machine.{Step, Stops, Ends, State, started, Answer, run}
 use Rattle.walk.specs.Walk.{Walked, Fine, Halt}
 
 -- the machine's next step where a walk has ended
-abbrev pub ending : Walked (Unit {0}) → Step
-ending (Fine n e u) = Ends
-ending (Halt n e r) = Stops r
+abbrev pub nextStep : Walked (Unit {0}) → Step
+nextStep (Fine n e u) = Ends
+nextStep (Halt n e r) = Stops r
 
 -- the steps that a run must be given to answer as a walk ended: a stop asks for one more, which is not counted
 abbrev pub needed : Walked (Unit {0}) → ℕ
@@ -31,8 +31,3 @@ runsFrom p (n ∷ ns) r = let g = run p n (r .state) in runsFrom p ns (record { 
 
 abbrev pub runs : Program → List ℕ → Runs
 runs p ns = runsFrom p ns (record { state = started p; last = none })
-
--- all steps that runs were given
-abbrev pub sum : List ℕ → ℕ
-sum [] = 0
-sum (n ∷ ns) = n + sum ns

@@ -5,15 +5,15 @@ use mathlib.Core.Bool.{Bool, true, false}
 use mathlib.Core.List.{List, [], map}
 use mathlib.Core.Option.{some}
 use lib.ListN.{length}
-use Rattle.numeric.specs.Whole.{whole}
 use Rattle.sifv.specs.Value.{Single, Num, Null, Value, One, Arr, Tab}
 use Rattle.ast.specs.Tree.{Expr, Literal, Name, BinaryExpr, UnaryExpr, VarAssign, ArrayMut, FnCall, Rhs, Expression, Table, Array, ArrayAccess}
 use Rattle.ast.specs.Tree.{Items, noItems, moreItems, Source, OverName, OverCall}
 use Rattle.ast.specs.Tree.{Stmt, Block, IfStmt, ForStmt, Return, ReturnExpr, ExprStmt, VarDecl, VarInit, FnDecl, Stmts, noStmts, moreStmts, Rest, Else, Elif}
-use Rattle.compiler.specs.Token.{literal, assigned, binKind, unKind}
+use Rattle.compiler.specs.Literals.{literal, assigned, binKind, unKind}
 use Rattle.vm.specs.RuntimeErr.{RuntimeErr}
-use Rattle.vm.specs.Operation.{Got, Ok, Err, Names, empty, put, orNull, held, array, binary, unary, truth, read, item, update, tabled}
+use Rattle.vm.specs.Operation.{Got, Ok, Err, Names, empty, put, orNull, held, array, binary, unary, truth, read, arrayItem, update, tabled}
 use Rattle.vm.specs.Machine.{Answer, Done, Stopped}
+use Rattle.numeric.specs.Whole.{whole}
 
 -- what comes of a tree: the steps taken, the names left, and a result or the stop that ended it
 pub data Walked (A : Type 0) : Type 0 where
@@ -21,18 +21,22 @@ pub data Walked (A : Type 0) : Type 0 where
   Halt : ℕ → Names → RuntimeErr → Walked A
 
 -- n steps more, before
-abbrev pub after : {A : Type 0} → ℕ → Walked A → Walked A
-after n (Fine m e a) = Fine (n + m) e a
-after n (Halt m e r) = Halt (n + m) e r
+abbrev pub counting : {A : Type 0} → ℕ → Walked A → Walked A
+counting n (Fine m e a) = Fine (n + m) e a
+counting n (Halt m e r) = Halt (n + m) e r
 
 infixl 20 _>>=_
 abbrev pub _>>=_ : {A B : Type 0} → Walked A → (Names → A → Walked B) → Walked B
-Fine n e a >>= f = after n (f e a)
+Fine n e a >>= f = counting n (f e a)
 Halt n e r >>= f = Halt n e r
 
 -- n steps that leave the names e
 abbrev pub steps : ℕ → Names → Walked (Unit {0})
 steps n e = Fine n e tt
+
+-- what no plain script has there: nothing is done, and the theorems do not speak of it
+abbrev pub notPlain : {A : Type 0} → Names → A → Walked A
+notPlain e a = Fine 0 e a
 
 -- one step that gets a value, or the stop, which is not counted
 abbrev pub gets : Names → Got Value → Walked Value
@@ -46,15 +50,14 @@ makes e (Err r) = Halt 0 e r
 
 -- ---- expressions: a load for a literal or a name, one step for an operator
 
--- a plain script has the last three nowhere that a value is asked for
 abbrev pub walkExpr : Expr → Names → Walked Value
 walkExpr (Literal l) e = gets e (Ok (One (literal l)))
 walkExpr (Name x) e = gets e (read e x)
 walkExpr (BinaryExpr t a b) e = walkExpr a e >>= λ e₁ v. walkExpr b e₁ >>= λ e₂ w. gets e₂ (binary (binKind t) v w)
 walkExpr (UnaryExpr t a) e = walkExpr a e >>= λ e₁ v. gets e₁ (unary (unKind t) v)
-walkExpr (VarAssign x r) e = Fine 0 e (One Null)
-walkExpr (ArrayMut x i v) e = Fine 0 e (One Null)
-walkExpr (FnCall f ps) e = Fine 0 e (One Null)
+walkExpr (VarAssign x r) e = notPlain e (One Null)
+walkExpr (ArrayMut x i v) e = notPlain e (One Null)
+walkExpr (FnCall f ps) e = notPlain e (One Null)
 
 -- ---- right sides, stored under x
 
@@ -64,9 +67,9 @@ walkAssign x (Literal l) o e = steps 1 (put e x (some (One (assigned l))))
 walkAssign x (Name y) o e = steps 1 (put e x (orNull (e y)))
 walkAssign x (BinaryExpr t a b) o e = o >>= λ e₁ v. steps 1 (put e₁ x (some v))
 walkAssign x (UnaryExpr t a) o e = o >>= λ e₁ v. steps 1 (put e₁ x (some v))
-walkAssign x (VarAssign y r) o e = steps 0 e
-walkAssign x (ArrayMut y i v) o e = steps 0 e
-walkAssign x (FnCall f ps) o e = steps 0 e
+walkAssign x (VarAssign y r) o e = notPlain e tt
+walkAssign x (ArrayMut y i v) o e = notPlain e tt
+walkAssign x (FnCall f ps) o e = notPlain e tt
 
 -- in file order
 abbrev pub walkItems : Items → ℕ → Names → Walked (Unit {0})
@@ -76,9 +79,9 @@ walkItems (moreItems k t is) x e = walkExpr t e >>= λ e₁ v. makes e₁ (table
 -- an Array stores under its own name; an ArrayAccess is read, and not stored
 abbrev pub walkRhs : Rhs → ℕ → Names → Walked (Unit {0})
 walkRhs (Expression t) x e = walkAssign x t (walkExpr t e) e
-walkRhs (Table is) x e = after 1 (walkItems is x (put e x (some (Tab []))))
+walkRhs (Table is) x e = counting 1 (walkItems is x (put e x (some (Tab []))))
 walkRhs (Array a ls) x e = steps 1 (put e a (some (Arr (map literal ls))))
-walkRhs (ArrayAccess a i) x e = walkExpr i e >>= λ e₁ v. gets e₁ (item e₁ a v) >>= λ e₂ w. steps 0 e₂
+walkRhs (ArrayAccess a i) x e = walkExpr i e >>= λ e₁ v. gets e₁ (arrayItem e₁ a v) >>= λ e₂ w. steps 0 e₂
 
 -- an expression as a statement. ArrayMut: the value first, then the index
 abbrev pub walkOwn : Expr → Names → Walked (Unit {0})
@@ -88,7 +91,7 @@ walkOwn (BinaryExpr t a b) e = walkExpr (BinaryExpr t a b) e >>= λ e₁ v. step
 walkOwn (UnaryExpr t a) e = walkExpr (UnaryExpr t a) e >>= λ e₁ v. steps 0 e₁
 walkOwn (VarAssign x r) e = walkRhs r x e
 walkOwn (ArrayMut x i v) e = walkExpr v e >>= λ e₁ w. walkExpr i e₁ >>= λ e₂ k. makes e₂ (update e₂ x k w)
-walkOwn (FnCall f ps) e = steps 0 e
+walkOwn (FnCall f ps) e = notPlain e tt
 
 -- ---- statements
 
@@ -99,34 +102,34 @@ orOne (moreStmts s k) e o = o
 
 -- the test takes one step; where it holds go on with a, else with b
 abbrev pub choose : Got Bool → Names → Walked (Unit {0}) → Walked (Unit {0}) → Walked (Unit {0})
-choose (Ok true) e a b = after 1 a
-choose (Ok false) e a b = after 1 b
+choose (Ok true) e a b = counting 1 a
+choose (Ok false) e a b = counting 1 b
 choose (Err r) e a b = Halt 0 e r
 
 -- The passes of a For with the index name i, the item name v and the array a: from index k on, `more` of them after this one. Each has 7 steps of its own:
 -- 3 before the Block, for index and item, and 4 behind it. The index comes from the loop.
 module _ (body : Names → Walked (Unit {0})) (i v a : ℕ) where
   abbrev pub pass : ℕ → Names → Walked (Unit {0})
-  pass k e = after 1 (gets e (item e a (One (Num (whole k)))) >>= λ e₁ w. after 1 (body (put e₁ v (some w)) >>= λ e₂ u. steps 4 (put e₂ i (some (One (Num (whole (suc k))))))))
+  pass k e = counting 1 (gets e (arrayItem e a (One (Num (whole k)))) >>= λ e₁ w. counting 1 (body (put e₁ v (some w)) >>= λ e₂ u. steps 4 (put e₂ i (some (One (Num (whole (suc k))))))))
 
   abbrev pub passes : ℕ → ℕ → Names → Walked (Unit {0})
   passes zero k e = pass k e
   passes (suc more) k e = pass k e >>= λ e₁ u. passes more (suc k) e₁
 
 -- how many items a name's array has
-abbrev pub items : Names → ℕ → Got (List Single)
-items e a = held a (e a) (λ v. array a v (λ l. Ok l))
+abbrev pub itemsHeld : Names → ℕ → Got (List Single)
+itemsHeld e a = held a (e a) (λ v. array a v (λ l. Ok l))
 
 -- "For reads the size once", after setting the index name to 0: one step each
 abbrev pub sized : Names → Got (List Single) → (ℕ → Walked (Unit {0})) → Walked (Unit {0})
-sized e (Ok l) f = after 1 (f (length l))
+sized e (Ok l) f = counting 1 (f (length l))
 sized e (Err r) f = Halt 0 e r
 
 abbrev pub walkFor : (Names → Walked (Unit {0})) → ℕ → ℕ → Source → Names → Walked (Unit {0})
 walkFor body i v (OverName a) e =
     let e₀ = put e i (some (One (Num (whole 0)))) in
-    after 1 (sized e₀ (items e₀ a) (λ n. passes body i v a (pred n) 0 e₀))
-walkFor body i v (OverCall f ps) e = steps 0 e
+    counting 1 (sized e₀ (itemsHeld e₀ a) (λ n. passes body i v a (pred n) 0 e₀))
+walkFor body i v (OverCall f ps) e = notPlain e tt
 
 abbrev mutual
   pub walkStmt : Stmt → Names → Walked (Unit {0})
@@ -134,12 +137,12 @@ abbrev mutual
   -- the condition, its test, the Block, and 2 steps more: the jump to the end, and the end
   walkStmt (IfStmt c b k) e = walkExpr c e >>= λ e₁ v. choose (truth v) e₁ (orOne b e₁ (walkStmts b e₁) >>= λ e₂ u. steps 2 e₂) (walkRest k e₁)
   walkStmt (ForStmt i v s b) e = walkFor (λ e₁. orOne b e₁ (walkStmts b e₁)) i v s e
-  walkStmt Return e = steps 0 e
-  walkStmt (ReturnExpr t) e = steps 0 e
+  walkStmt Return e = notPlain e tt
+  walkStmt (ReturnExpr t) e = notPlain e tt
   walkStmt (ExprStmt t) e = walkOwn t e
   walkStmt (VarDecl x) e = steps 1 (put e x (some (One Null)))
   walkStmt (VarInit x r) e = walkRhs r x e
-  walkStmt (FnDecl f ps b) e = steps 0 e
+  walkStmt (FnDecl f ps b) e = notPlain e tt
 
   pub walkStmts : Stmts → Names → Walked (Unit {0})
   walkStmts noStmts e = steps 0 e

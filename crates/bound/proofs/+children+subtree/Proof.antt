@@ -2,7 +2,7 @@ use native.Mathlib.Omega.{arith}
 use Prim.Native.Nat.{_+_, _*_}
 use lib.ListN.{drop}
 use borrow.Author.Needs.{needs}
-use Rattle.bound.specs.Weights as Rule
+use Rattle.bound.specs.inner.Weights as Rule
 use Rattle.bound.proofs.Steps.{Going, begins, turn, finish, stops, short, goes, counts-small}
 use Prim.Native.Nat.{ℕ, _<_}
 use borrow.Fn.Kinds.{In}
@@ -38,31 +38,34 @@ abbrev subtree-below : ℕ → In 1 subtree-kinds.ps
 subtree-below t = and 1 subtree-kinds.ps (falls 1 subtree-kinds.ps _<_ μ-subtree t) subtree.Pre
 
 abbrev children-Inv-loop : children-lts.InvT-loop
-children-Inv-loop depth l under count entries at next₀ cost₀ more₀ next cost more = Going entries (Rule.times (λ es. Rule.subtree depth l under es) count (drop at entries)) (Rule.times (λ es. Rule.subtree depth l under es) more (drop next entries)) next cost
+children-Inv-loop depth l under count entries at next₀ cost₀ more₀ next cost more = Going entries (Rule.forestTimes (λ es. Rule.subtree depth l under es) count (drop at entries)) (Rule.forestTimes (λ es. Rule.subtree depth l under es) more (drop next entries)) next cost
 
 abbrev children-μ-loop : children-lts.MeasureT-loop
 children-μ-loop depth l under count entries at next₀ cost₀ more₀ next cost more = more
 
+-- what the functions called ask and ensure
+
+abbrev children-claims : ℕ → children-lts.Claims
+children-claims t = (subtree-below t, subtree.Post)
+
+abbrev subtree-claims : ℕ → subtree-lts.Claims
+subtree-claims t = (wide-reads.Asked, wide-reads.Learnt, children-below t, children.Post, whole-reads.Asked, whole-reads.Learnt)
+
 children-loop-holds :
     (t : ℕ) →
-    children-lts.Need-loop-holds
-    (subtree-below t, subtree.Post)
+    children-lts.Need-loop-holds (children-claims t)
     (children-at t)
     children.Post
     children-Inv-loop
     children-μ-loop
 children-loop-holds t c = begins _ (c .before .pre .1 .2)
 
-children-subtree-requires : (t : ℕ) → children-lts.Need-subtree-requires (
-  subtree-below t,
-  subtree.Post,
-) (children-at t) children.Post children-Inv-loop children-μ-loop
+children-subtree-requires : (t : ℕ) → children-lts.Need-subtree-requires (children-claims t) (children-at t) children.Post children-Inv-loop children-μ-loop
 children-subtree-requires t c κs = let s = c .before .before .before in (omega (arith, s .pre .0), (s .pre .1 .0, s .pre .1 .1, c .before .loop .inv .inside))
 
 children-add-cost :
     (t : ℕ) →
-    children-lts.Need-add-cost
-    (subtree-below t, subtree.Post)
+    children-lts.Need-add-cost (children-claims t)
     (children-at t)
     children.Post
     children-Inv-loop
@@ -71,8 +74,7 @@ children-add-cost t c = omega (arith, c .before .before .before .loop .inv .smal
 
 children-sub-more :
     (t : ℕ) →
-    children-lts.Need-sub-more
-    (subtree-below t, subtree.Post)
+    children-lts.Need-sub-more (children-claims t)
     (children-at t)
     children.Post
     children-Inv-loop
@@ -81,8 +83,7 @@ children-sub-more t c = omega arith
 
 children-loop-less :
     (t : ℕ) →
-    children-lts.Need-loop-less
-    (subtree-below t, subtree.Post)
+    children-lts.Need-loop-less (children-claims t)
     (children-at t)
     children.Post
     children-Inv-loop
@@ -91,8 +92,7 @@ children-loop-less t c = omega arith
 
 children-loop-again :
     (t : ℕ) →
-    children-lts.Need-loop-again
-    (subtree-below t, subtree.Post)
+    children-lts.Need-loop-again (children-claims t)
     (children-at t)
     children.Post
     children-Inv-loop
@@ -101,149 +101,54 @@ children-loop-again t c = turn _ (c .before .before .before .loop .more) (c .bef
 
 children-returns :
     (t : ℕ) →
-    children-lts.Need-returns
-    (subtree-below t, subtree.Post)
+    children-lts.Need-returns (children-claims t)
     (children-at t)
     children.Post
     children-Inv-loop
     children-μ-loop
 children-returns t c = finish _ (c .before .loop .more) (omega arith) (c .before .loop .inv)
 
-subtree-returns : (t : ℕ) → subtree-lts.Need-returns (
-  wide-reads.Asked,
-  wide-reads.Learnt,
-  children-below t,
-  children.Post,
-  whole-reads.Asked,
-  whole-reads.Learnt,
-) (subtree-at t) subtree.Post
+subtree-returns : (t : ℕ) → subtree-lts.Need-returns (subtree-claims t) (subtree-at t) subtree.Post
 subtree-returns t c = let s = c .before .before in stops _ (s .args .depth) _ _ _ (c .if1 .taken) (s .pre .1 .2)
 
-subtree-add-if2 : (t : ℕ) → subtree-lts.Need-add-if2 (
-  wide-reads.Asked,
-  wide-reads.Learnt,
-  children-below t,
-  children.Post,
-  whole-reads.Asked,
-  whole-reads.Learnt,
-) (subtree-at t) subtree.Post
+subtree-add-if2 : (t : ℕ) → subtree-lts.Need-add-if2 (subtree-claims t) (subtree-at t) subtree.Post
 subtree-add-if2 t c = omega (arith, c .before .before .pre .1 .2)
 
-subtree-returns-2 : (t : ℕ) → subtree-lts.Need-returns-2 (
-  wide-reads.Asked,
-  wide-reads.Learnt,
-  children-below t,
-  children.Post,
-  whole-reads.Asked,
-  whole-reads.Learnt,
-) (subtree-at t) subtree.Post
+subtree-returns-2 : (t : ℕ) → subtree-lts.Need-returns-2 (subtree-claims t) (subtree-at t) subtree.Post
 subtree-returns-2 t c = let s = c .before .before .before in short _ (s .args .depth) _ _ _ (c .if2 .taken) (s .pre .1 .2)
 
-subtree-shared-slice-read-wide : (t : ℕ) → subtree-lts.Need-shared-slice-read-wide (
-  wide-reads.Asked,
-  wide-reads.Learnt,
-  children-below t,
-  children.Post,
-  whole-reads.Asked,
-  whole-reads.Learnt,
-) (subtree-at t) subtree.Post
+subtree-shared-slice-read-wide : (t : ℕ) → subtree-lts.Need-shared-slice-read-wide (subtree-claims t) (subtree-at t) subtree.Post
 subtree-shared-slice-read-wide t c = omega arith
 
-subtree-wide-requires : (t : ℕ) → subtree-lts.Need-wide-requires (
-  wide-reads.Asked,
-  wide-reads.Learnt,
-  children-below t,
-  children.Post,
-  whole-reads.Asked,
-  whole-reads.Learnt,
-) (subtree-at t) subtree.Post
+subtree-wide-requires : (t : ℕ) → subtree-lts.Need-wide-requires (subtree-claims t) (subtree-at t) subtree.Post
 subtree-wide-requires t c κs = search needs
 
-subtree-add-wide : (t : ℕ) → subtree-lts.Need-add-wide (
-  wide-reads.Asked,
-  wide-reads.Learnt,
-  children-below t,
-  children.Post,
-  whole-reads.Asked,
-  whole-reads.Learnt,
-) (subtree-at t) subtree.Post
+subtree-add-wide : (t : ℕ) → subtree-lts.Need-add-wide (subtree-claims t) (subtree-at t) subtree.Post
 subtree-add-wide t c = omega arith
 
-subtree-shared-slice-read-wide-2 : (t : ℕ) → subtree-lts.Need-shared-slice-read-wide-2 (
-  wide-reads.Asked,
-  wide-reads.Learnt,
-  children-below t,
-  children.Post,
-  whole-reads.Asked,
-  whole-reads.Learnt,
-) (subtree-at t) subtree.Post
+subtree-shared-slice-read-wide-2 : (t : ℕ) → subtree-lts.Need-shared-slice-read-wide-2 (subtree-claims t) (subtree-at t) subtree.Post
 subtree-shared-slice-read-wide-2 t c = omega arith
 
-subtree-wide-requires-2 : (t : ℕ) → subtree-lts.Need-wide-requires-2 (
-  wide-reads.Asked,
-  wide-reads.Learnt,
-  children-below t,
-  children.Post,
-  whole-reads.Asked,
-  whole-reads.Learnt,
-) (subtree-at t) subtree.Post
+subtree-wide-requires-2 : (t : ℕ) → subtree-lts.Need-wide-requires-2 (subtree-claims t) (subtree-at t) subtree.Post
 subtree-wide-requires-2 t c κs = search needs
 
-subtree-sub-children : (t : ℕ) → subtree-lts.Need-sub-children (
-  wide-reads.Asked,
-  wide-reads.Learnt,
-  children-below t,
-  children.Post,
-  whole-reads.Asked,
-  whole-reads.Learnt,
-) (subtree-at t) subtree.Post
+subtree-sub-children : (t : ℕ) → subtree-lts.Need-sub-children (subtree-claims t) (subtree-at t) subtree.Post
 subtree-sub-children t c = omega arith
 
-subtree-add-children : (t : ℕ) → subtree-lts.Need-add-children (
-  wide-reads.Asked,
-  wide-reads.Learnt,
-  children-below t,
-  children.Post,
-  whole-reads.Asked,
-  whole-reads.Learnt,
-) (subtree-at t) subtree.Post
+subtree-add-children : (t : ℕ) → subtree-lts.Need-add-children (subtree-claims t) (subtree-at t) subtree.Post
 subtree-add-children t c = omega arith
 
-subtree-children-requires : (t : ℕ) → subtree-lts.Need-children-requires (
-  wide-reads.Asked,
-  wide-reads.Learnt,
-  children-below t,
-  children.Post,
-  whole-reads.Asked,
-  whole-reads.Learnt,
-) (subtree-at t) subtree.Post
+subtree-children-requires : (t : ℕ) → subtree-lts.Need-children-requires (subtree-claims t) (subtree-at t) subtree.Post
 subtree-children-requires t c κs = let s = c .before .before .before .before .before .before .before in (omega (arith, s .pre .0, c .before .before .before .before .before .if1 .left), (s .pre .1 .0, s .pre .1 .1, c .before .before .before .before .if2 .left))
 
-subtree-whole-requires : (t : ℕ) → subtree-lts.Need-whole-requires (
-  wide-reads.Asked,
-  wide-reads.Learnt,
-  children-below t,
-  children.Post,
-  whole-reads.Asked,
-  whole-reads.Learnt,
-) (subtree-at t) subtree.Post
+subtree-whole-requires : (t : ℕ) → subtree-lts.Need-whole-requires (subtree-claims t) (subtree-at t) subtree.Post
 subtree-whole-requires t c κs = (c .before .before .before .before .before .before .before .before .pre .1 .0, counts-small (c .children .ensures))
 
-subtree-returns-3 : (t : ℕ) → subtree-lts.Need-returns-3 (
-  wide-reads.Asked,
-  wide-reads.Learnt,
-  children-below t,
-  children.Post,
-  whole-reads.Asked,
-  whole-reads.Learnt,
-) (subtree-at t) subtree.Post
+subtree-returns-3 : (t : ℕ) → subtree-lts.Need-returns-3 (subtree-claims t) (subtree-at t) subtree.Post
 subtree-returns-3 t c = let s = c .before .before .before .before .before .before .before .before .before in goes _ (s .args .depth) _ _ _ (omega (arith, c .before .before .before .before .before .before .before .if1 .left)) (c .before .before .before .before .before .before .if2 .left) (c .before .before .before .before .wide .ensures .0) (c .before .before .wide2 .ensures .0) (c .before .children .ensures) (c .whole .ensures)
 
 pub +children+subtree-spec : {M : Type 1} → statement M
-+children+subtree-spec = close μ-children μ-subtree (λ t. children-lts.spec (
-  subtree-below t,
-  subtree.Post,
-)
++children+subtree-spec = close μ-children μ-subtree (λ t. children-lts.spec (children-claims t)
     (children-at t)
     children.Post
     children-Inv-loop
@@ -255,14 +160,7 @@ pub +children+subtree-spec : {M : Type 1} → statement M
     (children-loop-less t)
     (children-loop-again t)
     (children-returns t))
-    λ t. subtree-lts.spec (
-      wide-reads.Asked,
-      wide-reads.Learnt,
-      children-below t,
-      children.Post,
-      whole-reads.Asked,
-      whole-reads.Learnt,
-    )
+    λ t. subtree-lts.spec (subtree-claims t)
     (subtree-at t)
     subtree.Post
     (subtree-returns t)

@@ -1,9 +1,9 @@
 use mathlib.Core.Path.{sym, _∙_}
 use native.Mathlib.Omega.{arith}
 use borrow.Author.Tests.{not-true, not-false}
-use Rattle.lent.specs.Each.{bytes-of}
+use Rattle.lent.specs.laws.Each.{bytes-of}
 use Rattle.ast.specs.File.{readTree}
-use Rattle.bound.specs.Whole.{not-plain}
+use Rattle.bound.specs.laws.Whole.{not-plain}
 use Rattle.bound.proofs.Steps.{file-long, entries-end, entries-few, file-counted}
 use borrow.Author.Needs.{needs}
 use Rattle.bound.proofs.bound.Statement.{statement}

@@ -3,13 +3,13 @@ use Prim.Native.Nat.{_-_, _≤_, _<_, max}
 use native.Mathlib.Omega.{arith}
 use lib.ListN.{length, drop}
 use borrow.Author.Needs.{needs}
-use Rattle.bound.specs.Weights as Rule
+use Rattle.bound.specs.inner.Weights as Rule
 use Rattle.bound.proofs.Steps.{longest-end, longest-turn, longer-small}
 use Rattle.bound.proofs.longest.Statement.{statement}
 use Rattle.bound.proofs.longest.Tie as tie
 
 abbrev Inv-loop : tie.InvT-loop
-Inv-loop entries most₀ i₀ most i = (i ≤ length entries) × (most < 256) × (Rule.longest entries ≡ max most (Rule.longest (drop i entries)))
+Inv-loop entries most₀ i₀ most i = (i ≤ length entries) × (most < 256) × (Rule.longestEntry entries ≡ max most (Rule.longestEntry (drop i entries)))
 
 abbrev μ-loop : tie.MeasureT-loop
 μ-loop entries most₀ i₀ most i = length entries - i

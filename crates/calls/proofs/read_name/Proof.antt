@@ -1,11 +1,11 @@
 use borrow.Author.Needs.{needs}
-use Rattle.lent.specs.Parts.{part-lent}
+use Rattle.lent.specs.laws.Parts.{part-lent}
 use Rattle.lent.specs.Bytes.{splice}
 use Prim.Native.Nat.{_+_, _*_}
 use mathlib.Core.Path.{sym, ap, _∙_}
 use native.Mathlib.Omega.{arith}
 use borrow.Author.Tests.{not-true, not-false}
-use Rattle.lent.specs.Each.{each-of}
+use Rattle.lent.specs.laws.Each.{each-of}
 use Rattle.calls.proofs.Answered.{read-short-state, read-short-out, read-no-text, read-refused, read-written}
 use Rattle.calls.proofs.read_name.Statement.{statement}
 use Rattle.calls.proofs.read_name.Tie as tie

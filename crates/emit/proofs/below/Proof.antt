@@ -1,13 +1,13 @@
 use borrow.Author.Needs.{needs}
 use borrow.Author.Tests.{eq-eqb, ne-eqb}
 use mathlib.Core.Path.{sym}
-use Rattle.compiler.specs.Lower.{before}
-use Rattle.emit.specs.Laws.{after-refused}
+use Rattle.compiler.specs.Lower.{askBelow}
+use Rattle.emit.specs.laws.Laws.{after-refused}
 use Rattle.emit.proofs.below.Statement.{statement}
 use Rattle.emit.proofs.below.Tie as tie
 
 returns : tie.Need-returns
-returns c = let s = c .before .before .args .low in sym (after-refused (before (s .reg)) s (c .if1 .taken))
+returns c = let s = c .before .before .args .low in sym (after-refused (askBelow (s .reg)) s (c .if1 .taken))
 
 refused-requires : tie.Need-refused-requires
 refused-requires c κs = search needs

@@ -1,7 +1,7 @@
 use borrow.Author.Needs.{needs}
 use Rattle.emit.proofs.load.Statement.{statement}
 use Rattle.emit.proofs.load.Tie as tie
-use Rattle.emit.specs.Laws.{ready-next, did-load}
+use Rattle.emit.specs.laws.Laws.{ready-next, did-load}
 
 nextreg-requires : tie.Need-nextreg-requires
 nextreg-requires c κs = search needs

@@ -3,7 +3,7 @@ use native.Mathlib.Omega.{arith}
 use mathlib.Core.Path.{sym, _∙_}
 use Rattle.emit.proofs.push_op.Statement.{statement}
 use Rattle.emit.proofs.push_op.Tie as tie
-use Rattle.emit.specs.Laws.{push-refused, push-full, push-put, roomy}
+use Rattle.emit.specs.laws.Laws.{push-refused, push-full, push-put, roomy}
 
 returns : tie.Need-returns
 returns c w i n b e = push-refused w i _ _ (c .if1 .taken)

@@ -1,6 +1,6 @@
 use native.Mathlib.Omega.{arith}
 use lib.Count.{ones-le}
-use Rattle.ending.specs.LeftLaws.{ones-in}
+use Rattle.ending.specs.laws.LeftLaws.{ones-in}
 use Rattle.ending.proofs.ones.Statement.{statement}
 use Rattle.ending.proofs.ones.Tie as tie
 use Rattle.ending.proofs.ones.Reads as reads

@@ -1,4 +1,4 @@
-use Rattle.text.specs.PutLaws.{put-then}
+use Rattle.text.specs.laws.PutLaws.{put-then}
 use borrow.Author.Needs.{needs}
 use Rattle.ending.proofs.put_counted.Statement.{statement}
 use Rattle.ending.proofs.put_counted.Tie as tie

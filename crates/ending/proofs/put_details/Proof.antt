@@ -1,4 +1,4 @@
-use Rattle.ending.specs.EndLaws.{details-none, details-one, details-three}
+use Rattle.ending.specs.laws.EndLaws.{details-none, details-one, details-three}
 use Rattle.lent.specs.Bytes.{beValue, part}
 use borrow.Author.Needs.{needs}
 use Rattle.ending.proofs.put_details.Statement.{statement}

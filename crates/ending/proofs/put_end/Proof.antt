@@ -1,4 +1,4 @@
-use Rattle.ending.specs.EndLaws.{end-done, end-stop, end-spent}
+use Rattle.ending.specs.laws.EndLaws.{end-done, end-stop, end-spent}
 use borrow.Author.Needs.{needs}
 use Rattle.ending.proofs.put_end.Statement.{statement}
 use Rattle.ending.proofs.put_end.Tie as tie

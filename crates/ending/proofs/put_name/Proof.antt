@@ -1,4 +1,4 @@
-use Rattle.ending.specs.EndLaws.{name-absent, name-put}
+use Rattle.ending.specs.laws.EndLaws.{name-absent, name-put}
 use Rattle.sifv.specs.Slot.{decodeSlot}
 use Rattle.lent.specs.Bytes.{part}
 use Prim.Native.Nat.{_+_, _*_}

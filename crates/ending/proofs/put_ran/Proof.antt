@@ -1,8 +1,8 @@
 use mathlib.Core.Path.{subst}
 use Prim.Native.Nat.{ℕ}
 use Rattle.text.specs.Put.{Put}
-use Rattle.text.specs.Joined.{put-three}
-use Rattle.ending.specs.EndBytes.{endIn, ranIn}
+use Rattle.text.specs.laws.Joined.{put-three}
+use Rattle.ending.specs.inner.EndBytes.{endIn, ranIn}
 use borrow.Author.Needs.{needs}
 use Rattle.ending.proofs.put_ran.Statement.{statement}
 use Rattle.ending.proofs.put_ran.Tie as tie

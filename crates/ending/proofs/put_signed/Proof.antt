@@ -1,4 +1,4 @@
-use Rattle.ending.specs.EndLaws.{positive-put, negative-put}
+use Rattle.ending.specs.laws.EndLaws.{positive-put, negative-put}
 use mathlib.Core.Path.{refl}
 use borrow.Author.Needs.{needs}
 use Rattle.ending.proofs.put_signed.Statement.{statement}

@@ -1,4 +1,4 @@
-use Rattle.ending.specs.EndLaws.{stop-put}
+use Rattle.ending.specs.laws.EndLaws.{stop-put}
 use borrow.Author.Needs.{needs}
 use Rattle.ending.proofs.put_stop.Statement.{statement}
 use Rattle.ending.proofs.put_stop.Tie as tie

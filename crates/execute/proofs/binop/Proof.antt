@@ -1,9 +1,9 @@
 -- `execute::binop` meets its contract. Assumes nothing.
 use mathlib.Core.Path.{_≡_, refl, sym, ap, _∙_}
-use Rattle.sifv.specs.Seen.{seen, kindIn}
+use Rattle.sifv.specs.inner.Seen.{seen, kindIn}
 use Rattle.vm.specs.RuntimeErr.{RegNoContents}
-use Rattle.execute.specs.View.{binModel, regsOf}
-use Rattle.execute.specs.Acts.{reg-formed, reg-value, binop-others, binop-numbers}
+use Rattle.execute.specs.inner.View.{binModel, regsOf}
+use Rattle.execute.specs.laws.Acts.{reg-formed, reg-value, binop-others, binop-numbers}
 use borrow.Author.Needs.{needs}
 use Rattle.execute.proofs.binop.Statement.{statement}
 use Rattle.execute.proofs.binop.Tie as tie

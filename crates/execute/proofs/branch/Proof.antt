@@ -1,16 +1,17 @@
 -- `execute::branch` meets its contract. Assumes nothing.
-use mathlib.Core.Path.{_≡_, refl, sym, ap, _∙_}
+use mathlib.Core.Path.{sym, ap, _∙_}
 use mathlib.Core.Option.{Option}
 use Rattle.sifv.specs.Value.{Value}
-use Rattle.sifv.specs.Seen.{seen, kindIn}
+use Rattle.sifv.specs.inner.Seen.{seen, kindIn}
 use Rattle.tables.specs.Tables.{labelAt}
-use Rattle.execute.specs.View.{regsOf}
-use Rattle.execute.specs.Acts.{reg-formed, reg-value}
-use Rattle.execute.specs.Programs.{programOf, branch-off, branch-go, branch-on}
+use Rattle.execute.specs.inner.View.{regsOf}
+use Rattle.execute.specs.laws.Acts.{reg-formed, reg-value}
+use Rattle.execute.specs.laws.Programs.{branch-off, branch-go, branch-on}
 use Rattle.execute.specs.declared.Step.the-variants as step
 use borrow.Author.Needs.{needs}
 use Rattle.execute.proofs.branch.Statement.{statement}
 use Rattle.execute.proofs.branch.Tie as tie
+use Rattle.execute.specs.inner.ProgramView.{programIn}
 
 reg-requires : tie.Need-reg-requires
 reg-requires c κs = search needs
@@ -22,7 +23,7 @@ ty-mismatch-requires : tie.Need-ty-mismatch-requires
 ty-mismatch-requires c κs = search needs
 
 returns : tie.Need-returns
-returns c = let s = c .before .before .before .before .before .before in branch-off (s .args .state .now) (s .args .loc) (s .pre .2) (s .args .kind) (regsOf (s .args .state .now) (s .args .src)) (labelAt ((programOf (s .args .program .now)) .code) (s .args .lblidx)) (λ z. c .before .if1 .taken (c .before .before .kind-at .ensures ∙ ap (λ (o : Option Value). kindIn (seen o)) (reg-value (s .args .state .now) (s .pre .1) (s .args .src) (s .pre .4) (c .before .before .before .reg .ensures)) ∙ z)) (ap step.Stops (c .ty-mismatch .ensures))
+returns c = let s = c .before .before .before .before .before .before in branch-off (s .args .state .now) (s .args .loc) (s .pre .2) (s .args .kind) (regsOf (s .args .state .now) (s .args .src)) (labelAt ((programIn (s .args .program .now)) .code) (s .args .lblidx)) (λ z. c .before .if1 .taken (c .before .before .kind-at .ensures ∙ ap (λ (o : Option Value). kindIn (seen o)) (reg-value (s .args .state .now) (s .pre .1) (s .args .src) (s .pre .4) (c .before .before .before .reg .ensures)) ∙ z)) (ap step.Stops (c .ty-mismatch .ensures))
 
 truth-at-requires : tie.Need-truth-at-requires
 truth-at-requires c κs = let s = c .before .before .before .before .before in let f = (reg-formed (s .args .state .now) (s .pre .1) (s .args .src) (s .pre .4) (c .before .before .reg .ensures)) in (f .0, f .1, sym (c .before .kind-at .ensures) ∙ c .if1 .left)
@@ -34,13 +35,13 @@ jump-requires : tie.Need-jump-requires
 jump-requires c κs = search needs
 
 returns-2 : tie.Need-returns-2
-returns-2 c = let s = c .before .before .before .before .before .before .before .before .before in branch-go (s .args .state .now) (s .args .loc) (s .pre .2) (s .args .kind) (regsOf (s .args .state .now) (s .args .src)) (c .before .before .before .truth-at .result) (labelAt ((programOf (s .args .program .now)) .code) (s .args .lblidx)) (sym (reg-value (s .args .state .now) (s .pre .1) (s .args .src) (s .pre .4) (c .before .before .before .before .before .before .reg .ensures)) ∙ c .before .before .before .truth-at .ensures) (sym (c .before .before .taken .ensures) ∙ c .before .if2 .taken) (c .jump .ensures)
+returns-2 c = let s = c .before .before .before .before .before .before .before .before .before in branch-go (s .args .state .now) (s .args .loc) (s .pre .2) (s .args .kind) (regsOf (s .args .state .now) (s .args .src)) (c .before .before .before .truth-at .result) (labelAt ((programIn (s .args .program .now)) .code) (s .args .lblidx)) (sym (reg-value (s .args .state .now) (s .pre .1) (s .args .src) (s .pre .4) (c .before .before .before .before .before .before .reg .ensures)) ∙ c .before .before .before .truth-at .ensures) (sym (c .before .before .taken .ensures) ∙ c .before .if2 .taken) (c .jump .ensures)
 
 on-requires : tie.Need-on-requires
 on-requires c κs = search needs
 
 returns-3 : tie.Need-returns-3
-returns-3 c = let s = c .before .before .before .before .before .before .before .before .before in branch-on (s .args .state .now) (s .args .loc) (s .pre .2) (s .args .kind) (regsOf (s .args .state .now) (s .args .src)) (c .before .before .before .truth-at .result) (labelAt ((programOf (s .args .program .now)) .code) (s .args .lblidx)) (sym (reg-value (s .args .state .now) (s .pre .1) (s .args .src) (s .pre .4) (c .before .before .before .before .before .before .reg .ensures)) ∙ c .before .before .before .truth-at .ensures) (sym (c .before .before .taken .ensures) ∙ c .before .if2 .left) (ap step.Goes (c .on .ensures))
+returns-3 c = let s = c .before .before .before .before .before .before .before .before .before in branch-on (s .args .state .now) (s .args .loc) (s .pre .2) (s .args .kind) (regsOf (s .args .state .now) (s .args .src)) (c .before .before .before .truth-at .result) (labelAt ((programIn (s .args .program .now)) .code) (s .args .lblidx)) (sym (reg-value (s .args .state .now) (s .pre .1) (s .args .src) (s .pre .4) (c .before .before .before .before .before .before .reg .ensures)) ∙ c .before .before .before .truth-at .ensures) (sym (c .before .before .taken .ensures) ∙ c .before .if2 .left) (ap step.Goes (c .on .ensures))
 
 pub branch-spec : {M : Type 1} → statement M
 branch-spec =

@@ -1,7 +1,7 @@
 -- `execute::call` meets its contract. Assumes nothing.
 use mathlib.Core.Path.{_≡_, refl, sym, ap, _∙_}
 use native.Mathlib.Omega.{arith}
-use Rattle.execute.specs.Stacks.{called-none, called-full, called-on}
+use Rattle.execute.specs.laws.Stacks.{called-none, called-full, called-on}
 use Rattle.execute.specs.declared.Step.the-variants as step
 use borrow.Author.Needs.{needs}
 use Rattle.execute.proofs.call.Statement.{statement}

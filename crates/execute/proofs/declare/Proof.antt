@@ -1,6 +1,6 @@
 -- `execute::declare` meets its contract. Assumes nothing.
 use mathlib.Core.Path.{_≡_, refl, sym, ap, _∙_}
-use Rattle.execute.specs.Programs.{declared-law}
+use Rattle.execute.specs.laws.Programs.{declared-law}
 use Rattle.execute.specs.declared.Step.the-variants as step
 use borrow.Author.Needs.{needs}
 use Rattle.execute.proofs.declare.Statement.{statement}

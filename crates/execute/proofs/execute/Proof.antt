@@ -1,20 +1,21 @@
 -- `execute::execute` meets its contract. Assumes nothing.
-use mathlib.Core.Path.{_≡_, refl, sym, ap, _∙_}
+use mathlib.Core.Path.{sym, ap, _∙_}
 use native.Mathlib.Omega.{arith}
 use lib.ListN.{length}
 use Rattle.opc.specs.Op as model
 use Rattle.tables.specs.Tables.{labelAt}
 use Rattle.vm.specs.Operation.{Ok, read}
-use Rattle.execute.specs.View.{binModel, unModel, literalAt, regsOf, namesOf}
-use Rattle.execute.specs.Laying.{length-stack, length-frames, canon-neat}
-use Rattle.execute.specs.Acts.{reg-formed, reg-value, name-formed, name-value, loads-law, loadv-law, wrote-law, stores-law}
-use Rattle.execute.specs.Stacks.{stored-as}
-use Rattle.execute.specs.Tabled.{looked-law}
-use Rattle.execute.specs.Programs.{programOf, jmpModel, texts, opAt, means-at, step-at, jump-law, on-law}
+use Rattle.execute.specs.inner.View.{binModel, unModel, literalIn, regsOf, namesOf}
+use Rattle.execute.specs.laws.Laying.{length-stack, length-frames, canon-neat}
+use Rattle.execute.specs.laws.Acts.{reg-formed, reg-value, name-formed, name-value, loads-law, loadv-law, wrote-law, stores-law}
+use Rattle.execute.specs.laws.Stacks.{stored-as}
+use Rattle.execute.specs.laws.Tabled.{looked-law}
+use Rattle.execute.specs.laws.Programs.{texts, opAt, means-at, step-at, jump-law, on-law}
 use Rattle.execute.specs.declared.Step.the-variants as step
 use borrow.Author.Needs.{needs}
 use Rattle.execute.proofs.execute.Statement.{statement}
 use Rattle.execute.proofs.execute.Tie as tie
+use Rattle.execute.specs.inner.ProgramView.{programIn, jmpModel}
 
 fetch-requires : tie.Need-fetch-requires
 fetch-requires c κs = search needs
@@ -25,7 +26,7 @@ enum-known-op c = search needs
 binop-requires : tie.Need-binop-requires
 binop-requires c κs =
     let s = c .before .before .before .before .before .before .before in
-    let p = programOf (s .args .program .now) in
+    let p = programIn (s .args .program .now) in
     let b = s .args .state .now in
     let l = s .args .loc in
     let m = means-at (s .args .program .now) p (s .pre .0) (l .pos) (s .pre .2) (sym (c .before .before .op .given .1) ∙ c .before .before .before .before .fetch .ensures) in
@@ -34,7 +35,7 @@ binop-requires c κs =
 loads-requires : tie.Need-loads-requires
 loads-requires c κs =
     let s = c .before .before .before .before .before .before .before .before .before in
-    let p = programOf (s .args .program .now) in
+    let p = programIn (s .args .program .now) in
     let b = s .args .state .now in
     let l = s .args .loc in
     let m = means-at (s .args .program .now) p (s .pre .0) (l .pos) (s .pre .2) (sym (c .before .before .before .before .op .given .1) ∙ c .before .before .before .before .before .before .fetch .ensures) in
@@ -46,7 +47,7 @@ enum-known-op-2 c = search needs
 unop-requires : tie.Need-unop-requires
 unop-requires c κs =
     let s = c .before .before .before .before .before .before .before in
-    let p = programOf (s .args .program .now) in
+    let p = programIn (s .args .program .now) in
     let b = s .args .state .now in
     let l = s .args .loc in
     let m = means-at (s .args .program .now) p (s .pre .0) (l .pos) (s .pre .2) (sym (c .before .before .op2 .given .1) ∙ c .before .before .before .before .fetch .ensures) in
@@ -55,7 +56,7 @@ unop-requires c κs =
 loads-requires-2 : tie.Need-loads-requires-2
 loads-requires-2 c κs =
     let s = c .before .before .before .before .before .before .before .before .before in
-    let p = programOf (s .args .program .now) in
+    let p = programIn (s .args .program .now) in
     let b = s .args .state .now in
     let l = s .args .loc in
     let m = means-at (s .args .program .now) p (s .pre .0) (l .pos) (s .pre .2) (sym (c .before .before .before .before .op2 .given .1) ∙ c .before .before .before .before .before .before .fetch .ensures) in
@@ -67,7 +68,7 @@ enum-known-op-3 c = search needs
 loadc-requires : tie.Need-loadc-requires
 loadc-requires c κs =
     let s = c .before .before .before .before .before .before .before in
-    let p = programOf (s .args .program .now) in
+    let p = programIn (s .args .program .now) in
     let b = s .args .state .now in
     let l = s .args .loc in
     let m = means-at (s .args .program .now) p (s .pre .0) (l .pos) (s .pre .2) (sym (c .before .before .op3 .given .1) ∙ c .before .before .before .before .fetch .ensures) in
@@ -82,7 +83,7 @@ enum-known-op-4 c = search needs
 loadn-requires : tie.Need-loadn-requires
 loadn-requires c κs =
     let s = c .before .before .before .before .before .before .before in
-    let p = programOf (s .args .program .now) in
+    let p = programIn (s .args .program .now) in
     let b = s .args .state .now in
     let l = s .args .loc in
     let m = means-at (s .args .program .now) p (s .pre .0) (l .pos) (s .pre .2) (sym (c .before .before .op4 .given .1) ∙ c .before .before .before .before .fetch .ensures) in
@@ -97,7 +98,7 @@ enum-known-op-5 c = search needs
 mv-requires : tie.Need-mv-requires
 mv-requires c κs =
     let s = c .before .before .before .before .before .before .before in
-    let p = programOf (s .args .program .now) in
+    let p = programIn (s .args .program .now) in
     let b = s .args .state .now in
     let l = s .args .loc in
     let m = means-at (s .args .program .now) p (s .pre .0) (l .pos) (s .pre .2) (sym (c .before .before .op5 .given .1) ∙ c .before .before .before .before .fetch .ensures) in
@@ -112,7 +113,7 @@ enum-known-op-6 c = search needs
 loadarrs-requires : tie.Need-loadarrs-requires
 loadarrs-requires c κs =
     let s = c .before .before .before .before .before .before .before in
-    let p = programOf (s .args .program .now) in
+    let p = programIn (s .args .program .now) in
     let b = s .args .state .now in
     let l = s .args .loc in
     let m = means-at (s .args .program .now) p (s .pre .0) (l .pos) (s .pre .2) (sym (c .before .before .op6 .given .1) ∙ c .before .before .before .before .fetch .ensures) in
@@ -121,7 +122,7 @@ loadarrs-requires c κs =
 loads-requires-3 : tie.Need-loads-requires-3
 loads-requires-3 c κs =
     let s = c .before .before .before .before .before .before .before .before .before in
-    let p = programOf (s .args .program .now) in
+    let p = programIn (s .args .program .now) in
     let b = s .args .state .now in
     let l = s .args .loc in
     let m = means-at (s .args .program .now) p (s .pre .0) (l .pos) (s .pre .2) (sym (c .before .before .before .before .op6 .given .1) ∙ c .before .before .before .before .before .before .fetch .ensures) in
@@ -133,7 +134,7 @@ enum-known-op-7 c = search needs
 loadarrv-requires : tie.Need-loadarrv-requires
 loadarrv-requires c κs =
     let s = c .before .before .before .before .before .before .before in
-    let p = programOf (s .args .program .now) in
+    let p = programIn (s .args .program .now) in
     let b = s .args .state .now in
     let l = s .args .loc in
     let m = means-at (s .args .program .now) p (s .pre .0) (l .pos) (s .pre .2) (sym (c .before .before .op7 .given .1) ∙ c .before .before .before .before .fetch .ensures) in
@@ -142,7 +143,7 @@ loadarrv-requires c κs =
 loads-requires-4 : tie.Need-loads-requires-4
 loads-requires-4 c κs =
     let s = c .before .before .before .before .before .before .before .before .before in
-    let p = programOf (s .args .program .now) in
+    let p = programIn (s .args .program .now) in
     let b = s .args .state .now in
     let l = s .args .loc in
     let m = means-at (s .args .program .now) p (s .pre .0) (l .pos) (s .pre .2) (sym (c .before .before .before .before .op7 .given .1) ∙ c .before .before .before .before .before .before .fetch .ensures) in
@@ -154,7 +155,7 @@ enum-known-op-8 c = search needs
 newarrv-requires : tie.Need-newarrv-requires
 newarrv-requires c κs =
     let s = c .before .before .before .before .before .before .before in
-    let p = programOf (s .args .program .now) in
+    let p = programIn (s .args .program .now) in
     let b = s .args .state .now in
     let l = s .args .loc in
     let m = means-at (s .args .program .now) p (s .pre .0) (l .pos) (s .pre .2) (sym (c .before .before .op8 .given .1) ∙ c .before .before .before .before .fetch .ensures) in
@@ -169,7 +170,7 @@ enum-known-op-9 c = search needs
 storec-requires : tie.Need-storec-requires
 storec-requires c κs =
     let s = c .before .before .before .before .before .before .before in
-    let p = programOf (s .args .program .now) in
+    let p = programIn (s .args .program .now) in
     let b = s .args .state .now in
     let l = s .args .loc in
     let m = means-at (s .args .program .now) p (s .pre .0) (l .pos) (s .pre .2) (sym (c .before .before .op9 .given .1) ∙ c .before .before .before .before .fetch .ensures) in
@@ -184,7 +185,7 @@ enum-known-op-10 c = search needs
 slot-requires : tie.Need-slot-requires
 slot-requires c κs =
     let s = c .before .before .before .before .before .before .before in
-    let p = programOf (s .args .program .now) in
+    let p = programIn (s .args .program .now) in
     let b = s .args .state .now in
     let l = s .args .loc in
     let m = means-at (s .args .program .now) p (s .pre .0) (l .pos) (s .pre .2) (sym (c .before .before .op10 .given .1) ∙ c .before .before .before .before .fetch .ensures) in
@@ -193,7 +194,7 @@ slot-requires c κs =
 store-requires : tie.Need-store-requires
 store-requires c κs =
     let s = c .before .before .before .before .before .before .before .before in
-    let p = programOf (s .args .program .now) in
+    let p = programIn (s .args .program .now) in
     let b = s .args .state .now in
     let l = s .args .loc in
     let m = means-at (s .args .program .now) p (s .pre .0) (l .pos) (s .pre .2) (sym (c .before .before .before .op10 .given .1) ∙ c .before .before .before .before .before .fetch .ensures) in
@@ -210,7 +211,7 @@ enum-known-op-11 c = search needs
 reg-requires : tie.Need-reg-requires
 reg-requires c κs =
     let s = c .before .before .before .before .before .before .before in
-    let p = programOf (s .args .program .now) in
+    let p = programIn (s .args .program .now) in
     let b = s .args .state .now in
     let l = s .args .loc in
     let m = means-at (s .args .program .now) p (s .pre .0) (l .pos) (s .pre .2) (sym (c .before .before .op11 .given .1) ∙ c .before .before .before .before .fetch .ensures) in
@@ -219,7 +220,7 @@ reg-requires c κs =
 store-requires-2 : tie.Need-store-requires-2
 store-requires-2 c κs =
     let s = c .before .before .before .before .before .before .before .before in
-    let p = programOf (s .args .program .now) in
+    let p = programIn (s .args .program .now) in
     let b = s .args .state .now in
     let l = s .args .loc in
     let m = means-at (s .args .program .now) p (s .pre .0) (l .pos) (s .pre .2) (sym (c .before .before .before .op11 .given .1) ∙ c .before .before .before .before .before .fetch .ensures) in
@@ -236,7 +237,7 @@ enum-known-op-12 c = search needs
 branch-requires : tie.Need-branch-requires
 branch-requires c κs =
     let s = c .before .before .before .before .before .before .before in
-    let p = programOf (s .args .program .now) in
+    let p = programIn (s .args .program .now) in
     let b = s .args .state .now in
     let l = s .args .loc in
     let m = means-at (s .args .program .now) p (s .pre .0) (l .pos) (s .pre .2) (sym (c .before .before .op12 .given .1) ∙ c .before .before .before .before .fetch .ensures) in
@@ -248,7 +249,7 @@ enum-known-op-13 c = search needs
 jump-requires : tie.Need-jump-requires
 jump-requires c κs =
     let s = c .before .before .before .before .before .before in
-    let p = programOf (s .args .program .now) in
+    let p = programIn (s .args .program .now) in
     let b = s .args .state .now in
     let l = s .args .loc in
     let m = means-at (s .args .program .now) p (s .pre .0) (l .pos) (s .pre .2) (sym (c .before .op13 .given .1) ∙ c .before .before .before .fetch .ensures) in
@@ -260,7 +261,7 @@ enum-known-op-14 c = search needs
 incrr-requires : tie.Need-incrr-requires
 incrr-requires c κs =
     let s = c .before .before .before .before .before .before .before in
-    let p = programOf (s .args .program .now) in
+    let p = programIn (s .args .program .now) in
     let b = s .args .state .now in
     let l = s .args .loc in
     let m = means-at (s .args .program .now) p (s .pre .0) (l .pos) (s .pre .2) (sym (c .before .before .op14 .given .1) ∙ c .before .before .before .before .fetch .ensures) in
@@ -269,7 +270,7 @@ incrr-requires c κs =
 loads-requires-5 : tie.Need-loads-requires-5
 loads-requires-5 c κs =
     let s = c .before .before .before .before .before .before .before .before .before in
-    let p = programOf (s .args .program .now) in
+    let p = programIn (s .args .program .now) in
     let b = s .args .state .now in
     let l = s .args .loc in
     let m = means-at (s .args .program .now) p (s .pre .0) (l .pos) (s .pre .2) (sym (c .before .before .before .before .op14 .given .1) ∙ c .before .before .before .before .before .before .fetch .ensures) in
@@ -281,7 +282,7 @@ enum-known-op-15 c = search needs
 decrr-requires : tie.Need-decrr-requires
 decrr-requires c κs =
     let s = c .before .before .before .before .before .before .before in
-    let p = programOf (s .args .program .now) in
+    let p = programIn (s .args .program .now) in
     let b = s .args .state .now in
     let l = s .args .loc in
     let m = means-at (s .args .program .now) p (s .pre .0) (l .pos) (s .pre .2) (sym (c .before .before .op15 .given .1) ∙ c .before .before .before .before .fetch .ensures) in
@@ -290,7 +291,7 @@ decrr-requires c κs =
 loads-requires-6 : tie.Need-loads-requires-6
 loads-requires-6 c κs =
     let s = c .before .before .before .before .before .before .before .before .before in
-    let p = programOf (s .args .program .now) in
+    let p = programIn (s .args .program .now) in
     let b = s .args .state .now in
     let l = s .args .loc in
     let m = means-at (s .args .program .now) p (s .pre .0) (l .pos) (s .pre .2) (sym (c .before .before .before .before .op15 .given .1) ∙ c .before .before .before .before .before .before .fetch .ensures) in
@@ -302,7 +303,7 @@ enum-known-op-16 c = search needs
 declare-requires : tie.Need-declare-requires
 declare-requires c κs =
     let s = c .before .before .before .before .before .before .before in
-    let p = programOf (s .args .program .now) in
+    let p = programIn (s .args .program .now) in
     let b = s .args .state .now in
     let l = s .args .loc in
     let m = means-at (s .args .program .now) p (s .pre .0) (l .pos) (s .pre .2) (sym (c .before .before .op16 .given .1) ∙ c .before .before .before .before .fetch .ensures) in
@@ -314,7 +315,7 @@ enum-known-op-17 c = search needs
 call-requires : tie.Need-call-requires
 call-requires c κs =
     let s = c .before .before .before .before .before .before .before in
-    let p = programOf (s .args .program .now) in
+    let p = programIn (s .args .program .now) in
     let b = s .args .state .now in
     let l = s .args .loc in
     let m = means-at (s .args .program .now) p (s .pre .0) (l .pos) (s .pre .2) (sym (c .before .before .op17 .given .1) ∙ c .before .before .before .before .fetch .ensures) in
@@ -326,7 +327,7 @@ enum-told c = search needs
 ret-requires : tie.Need-ret-requires
 ret-requires c κs =
     let s = c .before .before .before .before .before .before in
-    let p = programOf (s .args .program .now) in
+    let p = programIn (s .args .program .now) in
     let b = s .args .state .now in
     let l = s .args .loc in
     (s .pre .1 .holds, omega (arith, s .pre .1 .sound .calls-max, length-frames b (l .calls)))
@@ -337,7 +338,7 @@ enum-known-op-18 c = search needs
 push-requires : tie.Need-push-requires
 push-requires c κs =
     let s = c .before .before .before .before .before .before .before in
-    let p = programOf (s .args .program .now) in
+    let p = programIn (s .args .program .now) in
     let b = s .args .state .now in
     let l = s .args .loc in
     let m = means-at (s .args .program .now) p (s .pre .0) (l .pos) (s .pre .2) (sym (c .before .before .op18 .given .1) ∙ c .before .before .before .before .fetch .ensures) in
@@ -349,7 +350,7 @@ enum-known-op-19 c = search needs
 pop-requires : tie.Need-pop-requires
 pop-requires c κs =
     let s = c .before .before .before .before .before .before .before in
-    let p = programOf (s .args .program .now) in
+    let p = programIn (s .args .program .now) in
     let b = s .args .state .now in
     let l = s .args .loc in
     let m = means-at (s .args .program .now) p (s .pre .0) (l .pos) (s .pre .2) (sym (c .before .before .op19 .given .1) ∙ c .before .before .before .before .fetch .ensures) in
@@ -361,7 +362,7 @@ enum-known-op-20 c = search needs
 tbli-requires : tie.Need-tbli-requires
 tbli-requires c κs =
     let s = c .before .before .before .before .before .before .before in
-    let p = programOf (s .args .program .now) in
+    let p = programIn (s .args .program .now) in
     let b = s .args .state .now in
     let l = s .args .loc in
     let m = means-at (s .args .program .now) p (s .pre .0) (l .pos) (s .pre .2) (sym (c .before .before .op20 .given .1) ∙ c .before .before .before .before .fetch .ensures) in
@@ -377,7 +378,7 @@ enum-known-op-21 c = search needs
 tblg-requires : tie.Need-tblg-requires
 tblg-requires c κs =
     let s = c .before .before .before .before .before .before .before in
-    let p = programOf (s .args .program .now) in
+    let p = programIn (s .args .program .now) in
     let b = s .args .state .now in
     let l = s .args .loc in
     let m = means-at (s .args .program .now) p (s .pre .0) (l .pos) (s .pre .2) (sym (c .before .before .op21 .given .1) ∙ c .before .before .before .before .fetch .ensures) in
@@ -408,7 +409,7 @@ same-length c = search needs
 returns : tie.Need-returns
 returns c =
     let s = c .before .before .before .before .before .before .before .before .before .before .before .before in
-    let p = programOf (s .args .program .now) in
+    let p = programIn (s .args .program .now) in
     let b = s .args .state .now in
     let l = s .args .loc in
     let m = means-at (s .args .program .now) p (s .pre .0) (l .pos) (s .pre .2) (sym (c .before .before .before .before .before .before .before .op .given .1) ∙ c .before .before .before .before .before .before .before .before .before .fetch .ensures) in
@@ -422,7 +423,7 @@ same-length-2 c = search needs
 returns-2 : tie.Need-returns-2
 returns-2 c =
     let s = c .before .before .before .before .before .before .before .before .before .before .before .before in
-    let p = programOf (s .args .program .now) in
+    let p = programIn (s .args .program .now) in
     let b = s .args .state .now in
     let l = s .args .loc in
     let m = means-at (s .args .program .now) p (s .pre .0) (l .pos) (s .pre .2) (sym (c .before .before .before .before .before .before .before .op2 .given .1) ∙ c .before .before .before .before .before .before .before .before .before .fetch .ensures) in
@@ -436,13 +437,13 @@ same-length-3 c = search needs
 returns-3 : tie.Need-returns-3
 returns-3 c =
     let s = c .before .before .before .before .before .before .before .before .before .before .before in
-    let p = programOf (s .args .program .now) in
+    let p = programIn (s .args .program .now) in
     let b = s .args .state .now in
     let l = s .args .loc in
     let m = means-at (s .args .program .now) p (s .pre .0) (l .pos) (s .pre .2) (sym (c .before .before .before .before .before .before .op3 .given .1) ∙ c .before .before .before .before .before .before .before .before .fetch .ensures) in
     let o = c .before .before .before .before .before .before .op3 .given .0 in
-    step-at p b l (model.Ldc (o .0) (literalAt (s .args .program .now) (o .1 .0))) (s .pre .2) (m .0)
-    (loadv-law b l (s .pre .1 .holds) (o .0) (Ok (literalAt (s .args .program .now) (o .1 .0))) (m .1) (c .before .before .before .loadc .ensures) (c .stepped .ensures))
+    step-at p b l (model.Ldc (o .0) (literalIn (s .args .program .now) (o .1 .0))) (s .pre .2) (m .0)
+    (loadv-law b l (s .pre .1 .holds) (o .0) (Ok (literalIn (s .args .program .now) (o .1 .0))) (m .1) (c .before .before .before .loadc .ensures) (c .stepped .ensures))
 
 same-length-4 : tie.Need-same-length-4
 same-length-4 c = search needs
@@ -450,7 +451,7 @@ same-length-4 c = search needs
 returns-4 : tie.Need-returns-4
 returns-4 c =
     let s = c .before .before .before .before .before .before .before .before .before .before .before in
-    let p = programOf (s .args .program .now) in
+    let p = programIn (s .args .program .now) in
     let b = s .args .state .now in
     let l = s .args .loc in
     let m = means-at (s .args .program .now) p (s .pre .0) (l .pos) (s .pre .2) (sym (c .before .before .before .before .before .before .op4 .given .1) ∙ c .before .before .before .before .before .before .before .before .fetch .ensures) in
@@ -464,7 +465,7 @@ same-length-5 c = search needs
 returns-5 : tie.Need-returns-5
 returns-5 c =
     let s = c .before .before .before .before .before .before .before .before .before .before .before in
-    let p = programOf (s .args .program .now) in
+    let p = programIn (s .args .program .now) in
     let b = s .args .state .now in
     let l = s .args .loc in
     let m = means-at (s .args .program .now) p (s .pre .0) (l .pos) (s .pre .2) (sym (c .before .before .before .before .before .before .op5 .given .1) ∙ c .before .before .before .before .before .before .before .before .fetch .ensures) in
@@ -478,7 +479,7 @@ same-length-6 c = search needs
 returns-6 : tie.Need-returns-6
 returns-6 c =
     let s = c .before .before .before .before .before .before .before .before .before .before .before .before in
-    let p = programOf (s .args .program .now) in
+    let p = programIn (s .args .program .now) in
     let b = s .args .state .now in
     let l = s .args .loc in
     let m = means-at (s .args .program .now) p (s .pre .0) (l .pos) (s .pre .2) (sym (c .before .before .before .before .before .before .before .op6 .given .1) ∙ c .before .before .before .before .before .before .before .before .before .fetch .ensures) in
@@ -492,7 +493,7 @@ same-length-7 c = search needs
 returns-7 : tie.Need-returns-7
 returns-7 c =
     let s = c .before .before .before .before .before .before .before .before .before .before .before .before in
-    let p = programOf (s .args .program .now) in
+    let p = programIn (s .args .program .now) in
     let b = s .args .state .now in
     let l = s .args .loc in
     let m = means-at (s .args .program .now) p (s .pre .0) (l .pos) (s .pre .2) (sym (c .before .before .before .before .before .before .before .op7 .given .1) ∙ c .before .before .before .before .before .before .before .before .before .fetch .ensures) in
@@ -506,7 +507,7 @@ same-length-8 c = search needs
 returns-8 : tie.Need-returns-8
 returns-8 c =
     let s = c .before .before .before .before .before .before .before .before .before .before .before in
-    let p = programOf (s .args .program .now) in
+    let p = programIn (s .args .program .now) in
     let b = s .args .state .now in
     let l = s .args .loc in
     let m = means-at (s .args .program .now) p (s .pre .0) (l .pos) (s .pre .2) (sym (c .before .before .before .before .before .before .op8 .given .1) ∙ c .before .before .before .before .before .before .before .before .fetch .ensures) in
@@ -520,12 +521,12 @@ same-length-9 c = search needs
 returns-9 : tie.Need-returns-9
 returns-9 c =
     let s = c .before .before .before .before .before .before .before .before .before .before .before in
-    let p = programOf (s .args .program .now) in
+    let p = programIn (s .args .program .now) in
     let b = s .args .state .now in
     let l = s .args .loc in
     let m = means-at (s .args .program .now) p (s .pre .0) (l .pos) (s .pre .2) (sym (c .before .before .before .before .before .before .op9 .given .1) ∙ c .before .before .before .before .before .before .before .before .fetch .ensures) in
     let o = c .before .before .before .before .before .before .op9 .given .0 in
-    step-at p b l (model.Stc (literalAt (s .args .program .now) (o .0)) (o .1 .0)) (s .pre .2) (m .0)
+    step-at p b l (model.Stc (literalIn (s .args .program .now) (o .0)) (o .1 .0)) (s .pre .2) (m .0)
     (stores-law b l (s .pre .1 .holds) (c .before .before .before .storec .ensures) (c .stepped5 .ensures))
 
 same-length-10 : tie.Need-same-length-10
@@ -534,7 +535,7 @@ same-length-10 c = search needs
 returns-10 : tie.Need-returns-10
 returns-10 c =
     let s = c .before .before .before .before .before .before .before .before .before .before .before .before in
-    let p = programOf (s .args .program .now) in
+    let p = programIn (s .args .program .now) in
     let b = s .args .state .now in
     let l = s .args .loc in
     let m = means-at (s .args .program .now) p (s .pre .0) (l .pos) (s .pre .2) (sym (c .before .before .before .before .before .before .before .op10 .given .1) ∙ c .before .before .before .before .before .before .before .before .before .fetch .ensures) in
@@ -548,7 +549,7 @@ same-length-11 c = search needs
 returns-11 : tie.Need-returns-11
 returns-11 c =
     let s = c .before .before .before .before .before .before .before .before .before .before .before .before in
-    let p = programOf (s .args .program .now) in
+    let p = programIn (s .args .program .now) in
     let b = s .args .state .now in
     let l = s .args .loc in
     let m = means-at (s .args .program .now) p (s .pre .0) (l .pos) (s .pre .2) (sym (c .before .before .before .before .before .before .before .op11 .given .1) ∙ c .before .before .before .before .before .before .before .before .before .fetch .ensures) in
@@ -562,7 +563,7 @@ same-length-12 c = search needs
 returns-12 : tie.Need-returns-12
 returns-12 c =
     let s = c .before .before .before .before .before .before .before .before in
-    let p = programOf (s .args .program .now) in
+    let p = programIn (s .args .program .now) in
     let b = s .args .state .now in
     let l = s .args .loc in
     let m = means-at (s .args .program .now) p (s .pre .0) (l .pos) (s .pre .2) (sym (c .before .before .before .op12 .given .1) ∙ c .before .before .before .before .before .fetch .ensures) in
@@ -573,7 +574,7 @@ returns-12 c =
 returns-13 : tie.Need-returns-13
 returns-13 c =
     let s = c .before .before .before .before .before .before .before in
-    let p = programOf (s .args .program .now) in
+    let p = programIn (s .args .program .now) in
     let b = s .args .state .now in
     let l = s .args .loc in
     let m = means-at (s .args .program .now) p (s .pre .0) (l .pos) (s .pre .2) (sym (c .before .before .op13 .given .1) ∙ c .before .before .before .before .fetch .ensures) in
@@ -587,7 +588,7 @@ same-length-13 c = search needs
 returns-14 : tie.Need-returns-14
 returns-14 c =
     let s = c .before .before .before .before .before .before .before .before .before .before .before .before in
-    let p = programOf (s .args .program .now) in
+    let p = programIn (s .args .program .now) in
     let b = s .args .state .now in
     let l = s .args .loc in
     let m = means-at (s .args .program .now) p (s .pre .0) (l .pos) (s .pre .2) (sym (c .before .before .before .before .before .before .before .op14 .given .1) ∙ c .before .before .before .before .before .before .before .before .before .fetch .ensures) in
@@ -601,7 +602,7 @@ same-length-14 c = search needs
 returns-15 : tie.Need-returns-15
 returns-15 c =
     let s = c .before .before .before .before .before .before .before .before .before .before .before .before in
-    let p = programOf (s .args .program .now) in
+    let p = programIn (s .args .program .now) in
     let b = s .args .state .now in
     let l = s .args .loc in
     let m = means-at (s .args .program .now) p (s .pre .0) (l .pos) (s .pre .2) (sym (c .before .before .before .before .before .before .before .op15 .given .1) ∙ c .before .before .before .before .before .before .before .before .before .fetch .ensures) in
@@ -615,7 +616,7 @@ same-length-15 c = search needs
 returns-16 : tie.Need-returns-16
 returns-16 c =
     let s = c .before .before .before .before .before .before .before .before .before .before in
-    let p = programOf (s .args .program .now) in
+    let p = programIn (s .args .program .now) in
     let b = s .args .state .now in
     let l = s .args .loc in
     let m = means-at (s .args .program .now) p (s .pre .0) (l .pos) (s .pre .2) (sym (c .before .before .before .before .before .op16 .given .1) ∙ c .before .before .before .before .before .before .before .fetch .ensures) in
@@ -629,7 +630,7 @@ same-length-16 c = search needs
 returns-17 : tie.Need-returns-17
 returns-17 c =
     let s = c .before .before .before .before .before .before .before .before .before .before in
-    let p = programOf (s .args .program .now) in
+    let p = programIn (s .args .program .now) in
     let b = s .args .state .now in
     let l = s .args .loc in
     let m = means-at (s .args .program .now) p (s .pre .0) (l .pos) (s .pre .2) (sym (c .before .before .before .before .before .op17 .given .1) ∙ c .before .before .before .before .before .before .before .fetch .ensures) in
@@ -643,7 +644,7 @@ same-length-17 c = search needs
 returns-18 : tie.Need-returns-18
 returns-18 c =
     let s = c .before .before .before .before .before .before .before .before .before in
-    let p = programOf (s .args .program .now) in
+    let p = programIn (s .args .program .now) in
     let b = s .args .state .now in
     let l = s .args .loc in
     let m = means-at (s .args .program .now) p (s .pre .0) (l .pos) (s .pre .2) (sym (c .before .before .before .before .enum-told .given .1) ∙ c .before .before .before .before .before .before .fetch .ensures) in
@@ -656,7 +657,7 @@ same-length-18 c = search needs
 returns-19 : tie.Need-returns-19
 returns-19 c =
     let s = c .before .before .before .before .before .before .before .before .before .before in
-    let p = programOf (s .args .program .now) in
+    let p = programIn (s .args .program .now) in
     let b = s .args .state .now in
     let l = s .args .loc in
     let m = means-at (s .args .program .now) p (s .pre .0) (l .pos) (s .pre .2) (sym (c .before .before .before .before .before .op18 .given .1) ∙ c .before .before .before .before .before .before .before .fetch .ensures) in
@@ -670,7 +671,7 @@ same-length-19 c = search needs
 returns-20 : tie.Need-returns-20
 returns-20 c =
     let s = c .before .before .before .before .before .before .before .before .before .before in
-    let p = programOf (s .args .program .now) in
+    let p = programIn (s .args .program .now) in
     let b = s .args .state .now in
     let l = s .args .loc in
     let m = means-at (s .args .program .now) p (s .pre .0) (l .pos) (s .pre .2) (sym (c .before .before .before .before .before .op19 .given .1) ∙ c .before .before .before .before .before .before .before .fetch .ensures) in
@@ -684,7 +685,7 @@ same-length-20 c = search needs
 returns-21 : tie.Need-returns-21
 returns-21 c =
     let s = c .before .before .before .before .before .before .before .before .before .before .before in
-    let p = programOf (s .args .program .now) in
+    let p = programIn (s .args .program .now) in
     let b = s .args .state .now in
     let l = s .args .loc in
     let m = means-at (s .args .program .now) p (s .pre .0) (l .pos) (s .pre .2) (sym (c .before .before .before .before .before .before .op20 .given .1) ∙ c .before .before .before .before .before .before .before .before .fetch .ensures) in
@@ -698,7 +699,7 @@ same-length-21 c = search needs
 returns-22 : tie.Need-returns-22
 returns-22 c =
     let s = c .before .before .before .before .before .before .before .before .before .before .before in
-    let p = programOf (s .args .program .now) in
+    let p = programIn (s .args .program .now) in
     let b = s .args .state .now in
     let l = s .args .loc in
     let m = means-at (s .args .program .now) p (s .pre .0) (l .pos) (s .pre .2) (sym (c .before .before .before .before .before .before .op21 .given .1) ∙ c .before .before .before .before .before .before .before .before .fetch .ensures) in
@@ -709,7 +710,7 @@ returns-22 c =
 returns-23 : tie.Need-returns-23
 returns-23 c =
     let s = c .before .before .before .before .before .before in
-    let p = programOf (s .args .program .now) in
+    let p = programIn (s .args .program .now) in
     let b = s .args .state .now in
     let l = s .args .loc in
     let m = means-at (s .args .program .now) p (s .pre .0) (l .pos) (s .pre .2) (sym (c .before .enum-told2 .given .1) ∙ c .before .before .before .fetch .ensures) in
@@ -719,7 +720,7 @@ returns-23 c =
 returns-24 : tie.Need-returns-24
 returns-24 c =
     let s = c .before .before .before .before .before .before in
-    let p = programOf (s .args .program .now) in
+    let p = programIn (s .args .program .now) in
     let b = s .args .state .now in
     let l = s .args .loc in
     let m = means-at (s .args .program .now) p (s .pre .0) (l .pos) (s .pre .2) (sym (c .before .enum-told3 .given .1) ∙ c .before .before .before .fetch .ensures) in
@@ -729,7 +730,7 @@ returns-24 c =
 returns-25 : tie.Need-returns-25
 returns-25 c =
     let s = c .before .before .before .before .before in
-    let p = programOf (s .args .program .now) in
+    let p = programIn (s .args .program .now) in
     let b = s .args .state .now in
     let l = s .args .loc in
     let m = means-at (s .args .program .now) p (s .pre .0) (l .pos) (s .pre .2) (sym (c .enum-told4 .given .1) ∙ c .before .before .fetch .ensures) in

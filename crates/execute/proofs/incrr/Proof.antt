@@ -1,19 +1,19 @@
 -- `execute::incrr` meets its contract. Assumes nothing.
-use mathlib.Core.Path.{_≡_, refl, sym, ap, _∙_}
+use mathlib.Core.Path.{sym, ap, _∙_}
 use mathlib.Core.Option.{Option}
 use Rattle.sifv.specs.Value.{Value}
-use Rattle.sifv.specs.Seen.{seen, kindIn}
+use Rattle.sifv.specs.inner.Seen.{seen, kindIn}
 use lib.Ieee as Ieee
 use lib.Ieee.{binary64}
-use Rattle.numeric.specs.Whole.{whole}
 use Rattle.vm.specs.RuntimeErr.{InvalidIncr, InvalidIncrTy}
-use Rattle.execute.specs.View.{regsOf}
-use Rattle.execute.specs.Acts.{reg-formed, reg-value}
-use Rattle.execute.specs.Readers.{moved-none, moved-off, moved-on}
+use Rattle.execute.specs.inner.View.{regsOf}
+use Rattle.execute.specs.laws.Acts.{reg-formed, reg-value}
+use Rattle.execute.specs.laws.Readers.{moved-none, moved-off, moved-on}
 use Rattle.execute.specs.declared.Got.the-variants as got
 use borrow.Author.Needs.{needs}
 use Rattle.execute.proofs.incrr.Statement.{statement}
 use Rattle.execute.proofs.incrr.Tie as tie
+use Rattle.numeric.specs.Whole.{whole}
 
 reg-requires : tie.Need-reg-requires
 reg-requires c κs = search needs

@@ -4,10 +4,10 @@ use native.Mathlib.Omega.{arith}
 use mathlib.Core.Option.{Option}
 use Rattle.lent.specs.Bytes.{part}
 use Rattle.sifv.specs.Value.{Value}
-use Rattle.sifv.specs.Seen.{seen, kindIn}
-use Rattle.execute.specs.View.{namesOf}
-use Rattle.execute.specs.Acts.{name-formed, name-value}
-use Rattle.execute.specs.Arrays.{item-off, item-past, item-in}
+use Rattle.sifv.specs.inner.Seen.{seen, kindIn}
+use Rattle.execute.specs.inner.View.{namesOf}
+use Rattle.execute.specs.laws.Acts.{name-formed, name-value}
+use Rattle.execute.specs.laws.Arrays.{item-off, item-past, item-in}
 use Rattle.execute.specs.declared.Got.the-variants as got
 use borrow.Author.Needs.{needs}
 use Rattle.execute.proofs.item.Statement.{statement}

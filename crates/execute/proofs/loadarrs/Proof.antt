@@ -2,16 +2,16 @@
 use mathlib.Core.Path.{_≡_, refl, sym, ap, _∙_}
 use mathlib.Core.Option.{Option}
 use Rattle.sifv.specs.Value.{Value}
-use Rattle.sifv.specs.Seen.{seen, kindIn}
+use Rattle.sifv.specs.inner.Seen.{seen, kindIn}
 use native.Mathlib.Omega.{arith}
 use Prim.Native.Nat.{_^_}
 use lib.Dec.{le→leb}
 use lib.Ieee.{inFloat}
 use Rattle.lent.specs.Bytes.{part}
-use Rattle.execute.specs.View.{namesOf}
-use Rattle.execute.specs.Acts.{name-formed, name-value}
-use Rattle.execute.specs.Arrays.{arr-len}
-use Rattle.execute.specs.Readers.{size-off, size-in}
+use Rattle.execute.specs.inner.View.{namesOf}
+use Rattle.execute.specs.laws.Acts.{name-formed, name-value}
+use Rattle.execute.specs.laws.Arrays.{arr-len}
+use Rattle.execute.specs.laws.Readers.{size-off, size-in}
 use Rattle.execute.specs.declared.Got.the-variants as got
 use borrow.Author.Needs.{needs}
 use Rattle.execute.proofs.loadarrs.Statement.{statement}

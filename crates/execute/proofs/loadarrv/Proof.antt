@@ -2,10 +2,10 @@
 use mathlib.Core.Path.{_≡_, refl, sym, ap, _∙_}
 use mathlib.Core.Option.{Option}
 use Rattle.sifv.specs.Value.{Value}
-use Rattle.sifv.specs.Seen.{seen, kindIn}
-use Rattle.execute.specs.View.{namesOf, regsOf}
-use Rattle.execute.specs.Acts.{reg-formed, reg-value}
-use Rattle.execute.specs.Arrays.{loadarrv-off, loadarrv-at}
+use Rattle.sifv.specs.inner.Seen.{seen, kindIn}
+use Rattle.execute.specs.inner.View.{namesOf, regsOf}
+use Rattle.execute.specs.laws.Acts.{reg-formed, reg-value}
+use Rattle.execute.specs.laws.Arrays.{loadarrv-off, loadarrv-at}
 use Rattle.execute.specs.declared.Got.the-variants as got
 use borrow.Author.Needs.{needs}
 use Rattle.execute.proofs.loadarrv.Statement.{statement}

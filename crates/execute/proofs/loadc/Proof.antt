@@ -1,14 +1,14 @@
 -- `execute::loadc` meets its contract. Assumes nothing.
-use mathlib.Core.Path.{refl, sym, subst}
+use mathlib.Core.Path.{refl, subst}
 use Prim.Native.Nat.{ℕ, _<_}
 use native.Mathlib.Omega.{arith}
 use Rattle.sifv.specs.Slot.{singleOf}
-use Rattle.execute.specs.View.{recordAt}
-use Rattle.execute.specs.Acts.{reg-formed}
-use Rattle.execute.specs.Literals.{literal-single, stored-put, literal-reg}
+use Rattle.execute.specs.laws.Acts.{reg-formed}
+use Rattle.execute.specs.laws.Literals.{literal-single, stored-put, literal-reg}
 use borrow.Author.Needs.{needs}
 use Rattle.execute.proofs.loadc.Statement.{statement}
 use Rattle.execute.proofs.loadc.Tie as tie
+use Rattle.opc.specs.inner.Fetch.{recordAt}
 
 reg-requires : tie.Need-reg-requires
 reg-requires c κs = search needs

@@ -2,7 +2,7 @@
 use mathlib.Core.Path.{_≡_, refl, sym, ap, _∙_}
 use Prim.Native.Nat.{_+_, _*_}
 use native.Mathlib.Omega.{arith}
-use Rattle.execute.specs.Acts.{name-formed, reg-formed, loadn-none, loadn-some}
+use Rattle.execute.specs.laws.Acts.{name-formed, reg-formed, loadn-none, loadn-some}
 use Rattle.execute.specs.declared.Did.the-variants as did
 use borrow.Author.Needs.{needs}
 use Rattle.execute.proofs.loadn.Statement.{statement}

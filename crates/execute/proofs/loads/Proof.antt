@@ -1,16 +1,16 @@
 -- `execute::loads` meets its contract. Assumes nothing.
-use mathlib.Core.Path.{_≡_, refl, sym, ap, _∙_}
+use mathlib.Core.Path.{refl, ap, _∙_}
 use Prim.Native.Nat.{ℕ}
 use mathlib.Core.List.{_++_}
 use Rattle.lent.specs.Bytes.{splice}
-use Rattle.sifv.specs.Slot.{zeros}
-use Rattle.sifv.specs.Seen.{headBytes}
-use Rattle.execute.specs.View.{fine, fail}
-use Rattle.execute.specs.Acts.{reg-formed}
+use Rattle.sifv.specs.inner.Seen.{headBytes}
+use Rattle.execute.specs.inner.View.{fine, fail}
+use Rattle.execute.specs.laws.Acts.{reg-formed}
 use Rattle.execute.specs.declared.Step.the-variants as step
 use borrow.Author.Needs.{needs}
 use Rattle.execute.proofs.loads.Statement.{statement}
 use Rattle.execute.proofs.loads.Tie as tie
+use Rattle.lent.specs.Lists.{zeros}
 
 enum-known-got : tie.Need-enum-known-got
 enum-known-got c = search needs

@@ -4,8 +4,8 @@ use mathlib.Core.Path.{refl, subst}
 use Prim.Native.Nat.{ℕ}
 use native.Mathlib.Omega.{arith}
 use Rattle.vm.specs.Operation.{Ok}
-use Rattle.execute.specs.View.{regsOf, Wrote}
-use Rattle.execute.specs.Acts.{reg-formed, reg-bytes, wrote-moved}
+use Rattle.execute.specs.inner.View.{regsOf, Wrote}
+use Rattle.execute.specs.laws.Acts.{reg-formed, reg-bytes, wrote-moved}
 use borrow.Author.Needs.{needs}
 use Rattle.execute.proofs.mv.Statement.{statement}
 use Rattle.execute.proofs.mv.Tie as tie

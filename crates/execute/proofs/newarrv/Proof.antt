@@ -3,10 +3,10 @@ use mathlib.Core.Path.{_≡_, refl, sym, ap, _∙_}
 use native.Mathlib.Omega.{arith}
 use mathlib.Core.Option.{Option}
 use Rattle.sifv.specs.Value.{Value}
-use Rattle.sifv.specs.Seen.{seen, kindIn}
-use Rattle.execute.specs.View.{regsOf}
-use Rattle.execute.specs.Acts.{reg-formed, reg-value, kind-none}
-use Rattle.execute.specs.Arrays.{newarrv-index, newarrv-none, newarrv-at}
+use Rattle.sifv.specs.inner.Seen.{seen, kindIn}
+use Rattle.execute.specs.inner.View.{regsOf}
+use Rattle.execute.specs.laws.Acts.{reg-formed, reg-value, kind-none}
+use Rattle.execute.specs.laws.Arrays.{newarrv-index, newarrv-none, newarrv-at}
 use Rattle.execute.specs.declared.Did.the-variants as did
 use borrow.Author.Needs.{needs}
 use Rattle.execute.proofs.newarrv.Statement.{statement}

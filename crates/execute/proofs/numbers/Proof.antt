@@ -1,8 +1,8 @@
 -- `execute::numbers` meets its contract. Assumes nothing.
 use mathlib.Core.Path.{_≡_, refl, sym, ap, _∙_}
 use lib.Ieee.{Float}
-use Rattle.execute.specs.View.{ok, err}
-use Rattle.sifv.specs.StoredForm.{storedOf}
+use Rattle.execute.specs.inner.View.{ok, err}
+use Rattle.sifv.specs.inner.StoredForm.{storedOf}
 use Rattle.execute.specs.declared.Got.the-variants as got
 use Rattle.sifv.specs.declared.SifVal.the-variants as show
 use borrow.Author.Needs.{needs}

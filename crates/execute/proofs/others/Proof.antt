@@ -2,10 +2,10 @@
 use mathlib.Core.Path.{_≡_, refl, sym, ap, _∙_}
 use mathlib.Core.List.{[]}
 use Rattle.sifv.specs.Value.{One, Null, Arr, Tab, Num, Str}
-use Rattle.sifv.specs.Seen.{bare, kindIn}
+use Rattle.sifv.specs.inner.Seen.{bare, kindIn}
 use Rattle.vm.specs.RuntimeErr.{RegNoContents}
-use Rattle.execute.specs.View.{binModel, err}
-use Rattle.execute.specs.Acts.{off-law, off-null, off-num, off-str}
+use Rattle.execute.specs.inner.View.{binModel, err}
+use Rattle.execute.specs.laws.Acts.{off-law, off-null, off-num, off-str}
 use Rattle.execute.specs.declared.Got.the-variants as got
 use borrow.Author.Needs.{needs}
 use Rattle.execute.proofs.others.Statement.{statement}

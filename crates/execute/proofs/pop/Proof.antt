@@ -2,8 +2,8 @@
 use mathlib.Core.Path.{_≡_, refl, sym, ap, _∙_}
 use Prim.Native.Nat.{ℕ, suc, _+_, _*_, _-_, _≤_, _<_}
 use native.Mathlib.Omega.{arith}
-use Rattle.execute.specs.Acts.{reg-formed}
-use Rattle.execute.specs.Stacks.{popped-none, popped-some, kept-formed}
+use Rattle.execute.specs.laws.Acts.{reg-formed}
+use Rattle.execute.specs.laws.Stacks.{popped-none, popped-some, kept-formed}
 use Rattle.execute.specs.declared.Step.the-variants as step
 use borrow.Author.Needs.{needs}
 use Rattle.execute.proofs.pop.Statement.{statement}

@@ -1,8 +1,8 @@
 -- `execute::push` meets its contract. Assumes nothing.
 use mathlib.Core.Path.{_≡_, refl, sym, ap, _∙_}
 use native.Mathlib.Omega.{arith}
-use Rattle.execute.specs.Acts.{reg-formed}
-use Rattle.execute.specs.Stacks.{pushed-none, pushed-full, pushed-on}
+use Rattle.execute.specs.laws.Acts.{reg-formed}
+use Rattle.execute.specs.laws.Stacks.{pushed-none, pushed-full, pushed-on}
 use Rattle.execute.specs.declared.Step.the-variants as step
 use borrow.Author.Needs.{needs}
 use Rattle.execute.proofs.push.Statement.{statement}

@@ -5,10 +5,10 @@ use Prim.Native.Nat.{ℕ, _+_, _-_, _*_, _≤_}
 use native.Mathlib.Omega.{arith}
 use lib.ListN.{length, take, drop, set, length-set}
 use Rattle.lent.specs.Bytes.{splice}
-use Rattle.sifv.specs.Seen.{boxBytes}
+use Rattle.sifv.specs.inner.Seen.{boxBytes}
 use Rattle.opc.specs.Record.{itemList}
-use Rattle.execute.specs.View.{poolOf, orNone}
-use Rattle.execute.specs.Literals.{pool-entry, items-length, fill-start, fill-turn, fill-end}
+use Rattle.execute.specs.inner.View.{poolOf, orNone}
+use Rattle.execute.specs.laws.Literals.{pool-entry, items-length, fill-start, fill-turn, fill-end}
 use borrow.Author.Needs.{needs}
 use Rattle.execute.proofs.put_array.Statement.{statement}
 use Rattle.execute.proofs.put_array.Tie as tie

@@ -5,8 +5,8 @@ use Prim.Native.Nat.{ℕ}
 use Rattle.lent.specs.Bytes.{splice}
 use Rattle.sifv.specs.Value.{Value}
 use Rattle.sifv.specs.Slot.{encodeSlot}
-use Rattle.execute.specs.View.{poolOf, arrayAt}
-use Rattle.execute.specs.Literals.{literal-array, literal-table, pool-read}
+use Rattle.execute.specs.inner.View.{poolOf, arrayAt}
+use Rattle.execute.specs.laws.Literals.{literal-array, literal-table, pool-read}
 use borrow.Author.Needs.{needs}
 use Rattle.execute.proofs.put_contents.Statement.{statement}
 use Rattle.execute.proofs.put_contents.Tie as tie

@@ -3,7 +3,7 @@ use mathlib.Core.Path.{_≡_, refl, sym, ap, _∙_}
 use Prim.Native.Nat.{_+_, _*_}
 use native.Mathlib.Omega.{arith}
 use lib.ListN.{length-set}
-use Rattle.execute.specs.Literals.{entry-is, entry-put}
+use Rattle.execute.specs.laws.Literals.{entry-is, entry-put}
 use borrow.Author.Needs.{needs}
 use Rattle.execute.proofs.put_item.Statement.{statement}
 use Rattle.execute.proofs.put_item.Tie as tie

@@ -2,7 +2,7 @@
 use mathlib.Core.Path.{_≡_, refl, sym, ap, _∙_}
 use Prim.Native.Nat.{ℕ, suc, _+_, _*_, _-_, _≤_, _<_}
 use native.Mathlib.Omega.{arith}
-use Rattle.execute.specs.Stacks.{returned-none, returned-on}
+use Rattle.execute.specs.laws.Stacks.{returned-none, returned-on}
 use Rattle.execute.specs.declared.Step.the-variants as step
 use borrow.Author.Needs.{needs}
 use Rattle.execute.proofs.ret.Statement.{statement}

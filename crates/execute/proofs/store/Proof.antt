@@ -4,12 +4,12 @@ use native.Mathlib.Omega.{arith}
 use mathlib.Core.Option.{some}
 use lib.ListN.{length}
 use Rattle.lent.specs.Bytes.{part, splice}
-use Rattle.lent.specs.Parts.{length-part}
+use Rattle.lent.specs.laws.Parts.{length-part}
 use Rattle.sifv.specs.Value.{One, Null}
 use Rattle.sifv.specs.Slot.{decodeSlot}
 use Rattle.sifv.specs.declared.SifVal.the-variants as show
-use Rattle.execute.specs.Acts.{name-formed, length-bare}
-use Rattle.execute.specs.Stacks.{stored-law, null-none, null-some}
+use Rattle.execute.specs.laws.Acts.{name-formed, length-bare}
+use Rattle.execute.specs.laws.Stacks.{stored-law, null-none, null-some}
 use borrow.Author.Needs.{needs}
 use Rattle.execute.proofs.store.Statement.{statement}
 use Rattle.execute.proofs.store.Tie as tie

@@ -1,14 +1,14 @@
 -- `execute::storec` meets its contract. Assumes nothing.
-use mathlib.Core.Path.{refl, sym, subst}
+use mathlib.Core.Path.{refl, subst}
 use Prim.Native.Nat.{ℕ, _<_}
 use native.Mathlib.Omega.{arith}
 use Rattle.sifv.specs.Slot.{singleOf}
-use Rattle.execute.specs.View.{recordAt}
-use Rattle.execute.specs.Acts.{name-formed}
-use Rattle.execute.specs.Literals.{literal-single, stored-put, literal-name}
+use Rattle.execute.specs.laws.Acts.{name-formed}
+use Rattle.execute.specs.laws.Literals.{literal-single, stored-put, literal-name}
 use borrow.Author.Needs.{needs}
 use Rattle.execute.proofs.storec.Statement.{statement}
 use Rattle.execute.proofs.storec.Tie as tie
+use Rattle.opc.specs.inner.Fetch.{recordAt}
 
 slot-requires : tie.Need-slot-requires
 slot-requires c κs = search needs

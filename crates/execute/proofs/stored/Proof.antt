@@ -1,9 +1,9 @@
 -- `execute::stored` meets its contract. Assumes nothing.
-use Rattle.execute.specs.View.{recordAt}
-use Rattle.execute.specs.Literals.{single-read, stored-read}
+use Rattle.execute.specs.laws.Literals.{single-read, stored-read}
 use borrow.Author.Needs.{needs}
 use Rattle.execute.proofs.stored.Statement.{statement}
 use Rattle.execute.proofs.stored.Tie as tie
+use Rattle.opc.specs.inner.Fetch.{recordAt}
 
 kind-of-requires : tie.Need-kind-of-requires
 kind-of-requires c κs = search needs

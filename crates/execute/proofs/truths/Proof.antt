@@ -1,6 +1,6 @@
 -- `execute::truths` meets its contract. Assumes nothing.
 use mathlib.Core.Path.{_≡_, refl, sym, ap, _∙_}
-use Rattle.execute.specs.View.{ok, err}
+use Rattle.execute.specs.inner.View.{ok, err}
 use Rattle.execute.specs.declared.Got.the-variants as got
 use borrow.Author.Needs.{needs}
 use Rattle.execute.proofs.truths.Statement.{statement}

@@ -4,10 +4,10 @@ use native.Mathlib.Omega.{arith}
 use mathlib.Core.Option.{Option}
 use Rattle.lent.specs.Bytes.{part, splice}
 use Rattle.sifv.specs.Value.{Value}
-use Rattle.sifv.specs.Seen.{seen, plain, kindIn, setItem}
-use Rattle.execute.specs.View.{regsOf}
-use Rattle.execute.specs.Acts.{reg-formed, reg-value, name-formed, name-value}
-use Rattle.execute.specs.Arrays.{arr-len, update-off, update-past, update-multi, update-in}
+use Rattle.sifv.specs.inner.Seen.{seen, singleSeen, kindIn, setItem}
+use Rattle.execute.specs.inner.View.{regsOf}
+use Rattle.execute.specs.laws.Acts.{reg-formed, reg-value, name-formed, name-value}
+use Rattle.execute.specs.laws.Arrays.{arr-len, update-off, update-past, update-multi, update-in}
 use Rattle.execute.specs.declared.Did.the-variants as did
 use borrow.Author.Needs.{needs}
 use Rattle.execute.proofs.update.Statement.{statement}
@@ -62,7 +62,7 @@ same-length-4 : tie.Need-same-length-4
 same-length-4 c = search needs
 
 returns-4 : tie.Need-returns-4
-returns-4 c = update-in (c .before .before .before .before .before .before .before .before .before .before .before .before .before .before .before .before .args .state .now) (c .before .before .before .before .before .before .before .before .before .before .before .before .before .before .before .before .args .name) (c .before .before .before .before .before .before .before .before .before .before .before .before .before .before .before .before .args .i) (regsOf (c .before .before .before .before .before .before .before .before .before .before .before .before .before .before .before .before .args .state .now) (c .before .before .before .before .before .before .before .before .before .before .before .before .before .before .before .before .args .val)) (c .before .before .before .before .before .before .before .before .before .before .before .before .before .before .before .before .pre .3) (part (c .before .before .before .before .before .before .before .before .before .before .before .before .before .before .before .before .args .state .now) (c .before .before .before .before .before .before .before .before .before .before .before .before .before .before .slot .result) 256) ((name-formed (c .before .before .before .before .before .before .before .before .before .before .before .before .before .before .before .before .args .state .now) (c .before .before .before .before .before .before .before .before .before .before .before .before .before .before .before .before .pre .0) (c .before .before .before .before .before .before .before .before .before .before .before .before .before .before .before .before .args .name) (c .before .before .before .before .before .before .before .before .before .before .before .before .before .before .before .before .pre .1) (c .before .before .before .before .before .before .before .before .before .before .before .before .before .before .slot .ensures)) .1) (sym (c .before .before .before .before .before .before .before .before .before .before .before .before .kind-at .ensures) ∙ c .before .before .before .before .before .before .before .before .before .before .before .if1 .left) (name-value (c .before .before .before .before .before .before .before .before .before .before .before .before .before .before .before .before .args .state .now) (c .before .before .before .before .before .before .before .before .before .before .before .before .before .before .before .before .pre .0) (c .before .before .before .before .before .before .before .before .before .before .before .before .before .before .before .before .args .name) (c .before .before .before .before .before .before .before .before .before .before .before .before .before .before .before .before .pre .1) (c .before .before .before .before .before .before .before .before .before .before .before .before .before .before .slot .ensures)) (c .before .before .before .before .before .before .before .before .before .len-at .ensures) (c .before .before .before .before .before .before .before .before .if2 .left) (c .before .before .before .before .before .kind-at2 .ensures ∙ ap (λ (o : Option Value). kindIn (seen o)) (reg-value (c .before .before .before .before .before .before .before .before .before .before .before .before .before .before .before .before .args .state .now) (c .before .before .before .before .before .before .before .before .before .before .before .before .before .before .before .before .pre .0) (c .before .before .before .before .before .before .before .before .before .before .before .before .before .before .before .before .args .val) (c .before .before .before .before .before .before .before .before .before .before .before .before .before .before .before .before .pre .2) (c .before .before .before .before .before .before .before .reg .ensures))) (c .before .before .before .before .if3 .left) (c .before .before .before .before .before .before .before .before .before .before .before .before .before .before .before .before .pre .1) (c .before .before .before .before .before .before .before .before .before .before .before .before .before .before .slot .ensures) refl (c .before .before .store-item .ensures ∙ ap (λ (v : Option Value). splice (c .before .before .before .before .before .before .before .before .before .before .before .before .before .before .before .before .args .state .now) (c .before .before .before .before .before .before .before .before .before .before .before .before .before .before .slot .result) (setItem (part (c .before .before .before .before .before .before .before .before .before .before .before .before .before .before .before .before .args .state .now) (c .before .before .before .before .before .before .before .before .before .before .before .before .before .before .slot .result) 256) (c .before .before .before .before .before .before .before .before .before .before .before .before .before .before .before .before .args .i) (plain (seen v)))) (reg-value (c .before .before .before .before .before .before .before .before .before .before .before .before .before .before .before .before .args .state .now) (c .before .before .before .before .before .before .before .before .before .before .before .before .before .before .before .before .pre .0) (c .before .before .before .before .before .before .before .before .before .before .before .before .before .before .before .before .args .val) (c .before .before .before .before .before .before .before .before .before .before .before .before .before .before .before .before .pre .2) (c .before .before .before .before .before .before .before .reg .ensures)))
+returns-4 c = update-in (c .before .before .before .before .before .before .before .before .before .before .before .before .before .before .before .before .args .state .now) (c .before .before .before .before .before .before .before .before .before .before .before .before .before .before .before .before .args .name) (c .before .before .before .before .before .before .before .before .before .before .before .before .before .before .before .before .args .i) (regsOf (c .before .before .before .before .before .before .before .before .before .before .before .before .before .before .before .before .args .state .now) (c .before .before .before .before .before .before .before .before .before .before .before .before .before .before .before .before .args .val)) (c .before .before .before .before .before .before .before .before .before .before .before .before .before .before .before .before .pre .3) (part (c .before .before .before .before .before .before .before .before .before .before .before .before .before .before .before .before .args .state .now) (c .before .before .before .before .before .before .before .before .before .before .before .before .before .before .slot .result) 256) ((name-formed (c .before .before .before .before .before .before .before .before .before .before .before .before .before .before .before .before .args .state .now) (c .before .before .before .before .before .before .before .before .before .before .before .before .before .before .before .before .pre .0) (c .before .before .before .before .before .before .before .before .before .before .before .before .before .before .before .before .args .name) (c .before .before .before .before .before .before .before .before .before .before .before .before .before .before .before .before .pre .1) (c .before .before .before .before .before .before .before .before .before .before .before .before .before .before .slot .ensures)) .1) (sym (c .before .before .before .before .before .before .before .before .before .before .before .before .kind-at .ensures) ∙ c .before .before .before .before .before .before .before .before .before .before .before .if1 .left) (name-value (c .before .before .before .before .before .before .before .before .before .before .before .before .before .before .before .before .args .state .now) (c .before .before .before .before .before .before .before .before .before .before .before .before .before .before .before .before .pre .0) (c .before .before .before .before .before .before .before .before .before .before .before .before .before .before .before .before .args .name) (c .before .before .before .before .before .before .before .before .before .before .before .before .before .before .before .before .pre .1) (c .before .before .before .before .before .before .before .before .before .before .before .before .before .before .slot .ensures)) (c .before .before .before .before .before .before .before .before .before .len-at .ensures) (c .before .before .before .before .before .before .before .before .if2 .left) (c .before .before .before .before .before .kind-at2 .ensures ∙ ap (λ (o : Option Value). kindIn (seen o)) (reg-value (c .before .before .before .before .before .before .before .before .before .before .before .before .before .before .before .before .args .state .now) (c .before .before .before .before .before .before .before .before .before .before .before .before .before .before .before .before .pre .0) (c .before .before .before .before .before .before .before .before .before .before .before .before .before .before .before .before .args .val) (c .before .before .before .before .before .before .before .before .before .before .before .before .before .before .before .before .pre .2) (c .before .before .before .before .before .before .before .reg .ensures))) (c .before .before .before .before .if3 .left) (c .before .before .before .before .before .before .before .before .before .before .before .before .before .before .before .before .pre .1) (c .before .before .before .before .before .before .before .before .before .before .before .before .before .before .slot .ensures) refl (c .before .before .store-item .ensures ∙ ap (λ (v : Option Value). splice (c .before .before .before .before .before .before .before .before .before .before .before .before .before .before .before .before .args .state .now) (c .before .before .before .before .before .before .before .before .before .before .before .before .before .before .slot .result) (setItem (part (c .before .before .before .before .before .before .before .before .before .before .before .before .before .before .before .before .args .state .now) (c .before .before .before .before .before .before .before .before .before .before .before .before .before .before .slot .result) 256) (c .before .before .before .before .before .before .before .before .before .before .before .before .before .before .before .before .args .i) (singleSeen (seen v)))) (reg-value (c .before .before .before .before .before .before .before .before .before .before .before .before .before .before .before .before .args .state .now) (c .before .before .before .before .before .before .before .before .before .before .before .before .before .before .before .before .pre .0) (c .before .before .before .before .before .before .before .before .before .before .before .before .before .before .before .before .args .val) (c .before .before .before .before .before .before .before .before .before .before .before .before .before .before .before .before .pre .2) (c .before .before .before .before .before .before .before .reg .ensures)))
 
 pub update-spec : {M : Type 1} → statement M
 update-spec =

@@ -3,7 +3,7 @@ use Prim.Native.Nat.{ℕ, _+_, _-_, _≤_}
 use native.Mathlib.Omega.{arith}
 use lib.ListN.{length, take, replicate, length-replicate}
 use Rattle.lent.specs.Bytes.{splice}
-use Rattle.lent.specs.Parts.{length-splice}
+use Rattle.lent.specs.laws.Parts.{length-splice}
 use Rattle.lent.proofs.Loops.{clear-turn, clear-end}
 use Rattle.lent.proofs.clear.Statement.{statement}
 use Rattle.lent.proofs.clear.Tie as tie

@@ -3,7 +3,7 @@ use mathlib.Core.List.{List}
 use mathlib.Core.Option.{some}
 use Prim.Native.Nat.{ℕ}
 use native.Mathlib.Omega.{arith}
-use Rattle.lent.specs.Each.{each-of}
+use Rattle.lent.specs.laws.Each.{each-of}
 use Rattle.text.specs.Put.{Put}
 use Rattle.listing.proofs.Whole.{listing-refused, calls-made, program-of, bound-within, listed}
 use borrow.Author.Needs.{needs}

@@ -1,4 +1,4 @@
-use Rattle.text.specs.PutLaws.{put-then}
+use Rattle.text.specs.laws.PutLaws.{put-then}
 use Rattle.listing.proofs.Bounds.{no-bound, plain-bound}
 use borrow.Author.Needs.{needs}
 use Rattle.listing.proofs.put_bound.Statement.{statement}

@@ -1,4 +1,4 @@
-use Rattle.text.specs.PutLaws.{put-then}
+use Rattle.text.specs.laws.PutLaws.{put-then}
 use borrow.Author.Needs.{needs}
 use Rattle.listing.proofs.put_refused.Statement.{statement}
 use Rattle.listing.proofs.put_refused.Tie as tie

@@ -1,8 +1,8 @@
 use borrow.Author.Needs.{needs}
 use native.Mathlib.Omega.{arith}
 use mathlib.Core.Path.{refl, sym, _∙_}
-use Rattle.lower.specs.Compile.{onePass}
-use Rattle.lower.specs.CompileLaws.{one-ready, one-number, one-refused, one-asks, one-gives, pass-long, pass-cleared}
+use Rattle.lower.specs.inner.Compile.{onePass}
+use Rattle.lower.specs.laws.CompileLaws.{one-ready, one-number, one-refused, one-asks, one-gives, pass-long, pass-cleared}
 use Rattle.lower.proofs.compile.Statement.{statement}
 use Rattle.lower.proofs.compile.Tie as tie
 

@@ -1,6 +1,6 @@
 use borrow.Author.Needs.{needs}
 use mathlib.Core.Path.{refl}
-use Rattle.lower.specs.CompileLaws.{first-ready, second-ready, tables-ask, compiled-gives}
+use Rattle.lower.specs.laws.CompileLaws.{first-ready, second-ready, tables-ask, compiled-gives}
 use Rattle.lower.proofs.compile_both.Statement.{statement}
 use Rattle.lower.proofs.compile_both.Tie as tie
 

@@ -3,9 +3,9 @@ use native.Mathlib.Omega.{arith}
 use mathlib.Core.Path.{sym, _∙_}
 use Prim.Native.Nat.{_≤_}
 use lib.ListN.{length, drop}
-use Rattle.lent.specs.Each.{bytes-of}
-use Rattle.ast.specs.PlainFile.{accepted-tree}
-use Rattle.lower.specs.LowerLaws.{short-gives, refused-file, cleared, refused-tree, lowered-tree}
+use Rattle.lent.specs.laws.Each.{bytes-of}
+use Rattle.ast.specs.laws.PlainFile.{accepted-tree}
+use Rattle.lower.specs.laws.LowerLaws.{short-gives, refused-file, cleared, refused-tree, lowered-tree}
 use Rattle.lower.proofs.lower.Statement.{statement}
 use Rattle.lower.proofs.lower.Tie as tie
 

@@ -1,8 +1,8 @@
 use borrow.Author.Needs.{needs}
 use native.Mathlib.Omega.{arith}
-use Rattle.lent.specs.Each.{bytes-of}
-use Rattle.ast.specs.PlainFile.{accepted, accepted-tree}
-use Rattle.lower.specs.LowerLaws.{contents-fit, lengths-few, texts-fit, tree-spelt}
+use Rattle.lent.specs.laws.Each.{bytes-of}
+use Rattle.ast.specs.laws.PlainFile.{accepted, accepted-tree}
+use Rattle.lower.specs.laws.LowerLaws.{contents-fit, lengths-few, texts-fit, tree-spelt}
 use Rattle.lower.proofs.lower_read.Statement.{statement}
 use Rattle.lower.proofs.lower_read.Tie as tie
 

@@ -1,9 +1,10 @@
 -- `numeric::canonical` meets its contract. Assumes nothing.
 use mathlib.Core.Path.{sym, ap, _∙_}
-use Rattle.numeric.specs.Patterns.{bitsOf, bits-nan, no-nan-canonical}
+use Rattle.numeric.specs.laws.PatternLaws.{bits-nan, no-nan-canonical}
 use Rattle.numeric.proofs.Nans.{nan-pattern, no-nan-pattern}
 use Rattle.numeric.proofs.canonical.Statement.{statement}
 use Rattle.numeric.proofs.canonical.Tie as tie
+use Rattle.numeric.specs.inner.Patterns.{bitsOf}
 
 returns : tie.Need-returns
 returns c = sym (ap bitsOf (nan-pattern (c .before .args .p) (c .if1 .taken)) ∙ bits-nan)

@@ -3,7 +3,7 @@ use mathlib.Core.Path.{sym, _∙_, subst}
 use mathlib.Core.Bool.{Bool, not}
 use lib.Dec.{T}
 use lib.Ieee.{ofBits, neg}
-use Rattle.numeric.specs.Index.{index-unsigned}
+use Rattle.numeric.specs.laws.IndexLaws.{index-unsigned}
 use Rattle.numeric.proofs.Index.{past-end, before-start}
 use Rattle.numeric.proofs.cut.Statement.{statement}
 use Rattle.numeric.proofs.cut.Tie as tie

@@ -1,7 +1,7 @@
 -- `opc::byte_of` meets its contract. Assumes nothing.
 use mathlib.Core.Path.{sym}
 use Prim.Native.Nat.{_*_}
-use Rattle.lent.specs.Parts.{getD-part}
+use Rattle.lent.specs.laws.Parts.{getD-part}
 use borrow.Author.Needs.{needs}
 use Rattle.opc.proofs.byte_of.Statement.{statement}
 use Rattle.opc.proofs.byte_of.Tie as tie

@@ -3,7 +3,7 @@ use mathlib.Core.Path.{sym, ap, _∙_}
 use Prim.Native.Nat.{_*_}
 use native.Mathlib.Omega.{arith}
 use Rattle.lent.specs.Bytes.{beValue}
-use Rattle.lent.specs.Parts.{part-part}
+use Rattle.lent.specs.laws.Parts.{part-part}
 use borrow.Author.Needs.{needs}
 use Rattle.opc.proofs.word_of.Statement.{statement}
 use Rattle.opc.proofs.word_of.Tie as tie

@@ -3,15 +3,15 @@ use Prim.Native.Nat.{ℕ, _-_, _≤_}
 use native.Mathlib.Omega.{arith}
 use mathlib.Core.List.{List}
 use Rattle.lent.specs.Bytes.{concat}
-use Rattle.tables.specs.ProgramBytes.{tabulate}
 use Rattle.text.specs.Put.{Put}
-use Rattle.text.specs.PutLaws.{put-none, put-length, put-within}
-use Rattle.text.specs.Joined.{put-turn}
+use Rattle.text.specs.laws.PutLaws.{put-none, put-length, put-within}
+use Rattle.text.specs.laws.Joined.{put-turn}
 use Rattle.ops.specs.ProgramText.{opLine}
-use Rattle.ops.specs.Told.{instrAt}
+use Rattle.ops.specs.inner.Told.{instrAt}
 use borrow.Author.Needs.{needs}
 use Rattle.ops.proofs.put_code.Statement.{statement}
 use Rattle.ops.proofs.put_code.Tie as tie
+use Rattle.lent.specs.Lists.{tabulate}
 
 abbrev Inv-loop : tie.InvT-loop
 Inv-loop out₀ at program n p₀ i₀ out p i = (i ≤ n) × Put out₀ at (concat (tabulate 0 i (λ k. opLine k (instrAt program k)))) out p

@@ -1,7 +1,7 @@
 use mathlib.Core.Path.{_≡_, ap}
-use Rattle.text.specs.PutLaws.{put-none, put-then}
-use Rattle.ops.specs.Told.{entryLine}
-use Rattle.ops.specs.TextLaws.{put-as, entry-some}
+use Rattle.text.specs.laws.PutLaws.{put-none, put-then}
+use Rattle.ops.specs.inner.Told.{entryLine}
+use Rattle.ops.specs.laws.TextLaws.{put-as, entry-some}
 use borrow.Author.Needs.{needs}
 use Rattle.ops.proofs.put_entry.Statement.{statement}
 use Rattle.ops.proofs.put_entry.Tie as tie

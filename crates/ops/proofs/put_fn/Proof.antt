@@ -1,15 +1,15 @@
 use mathlib.Core.Path.{ap}
 use Prim.Native.Nat.{ℕ}
 use mathlib.Core.List.{List, [], _++_}
-use Rattle.tables.specs.ProgramBytes.{tabulate}
 use Rattle.text.specs.Text.{ascii, decimal}
-use Rattle.text.specs.PutLaws.{put-within, put-then}
-use Rattle.text.specs.Joined.{joined-fields}
-use Rattle.ops.specs.Told.{paramAt}
-use Rattle.ops.specs.TextLaws.{put-as}
+use Rattle.text.specs.laws.PutLaws.{put-within, put-then}
+use Rattle.text.specs.laws.Joined.{joined-fields}
+use Rattle.ops.specs.inner.Told.{paramAt}
+use Rattle.ops.specs.laws.TextLaws.{put-as}
 use borrow.Author.Needs.{needs}
 use Rattle.ops.proofs.put_fn.Statement.{statement}
 use Rattle.ops.proofs.put_fn.Tie as tie
+use Rattle.lent.specs.Lists.{tabulate}
 
 slice-aggregate-put-all : tie.Need-slice-aggregate-put-all
 slice-aggregate-put-all c = search needs

@@ -1,4 +1,4 @@
-use Rattle.ops.specs.TextLaws.{put-as, item-text}
+use Rattle.ops.specs.laws.TextLaws.{put-as, item-text}
 use borrow.Author.Needs.{needs}
 use Rattle.ops.proofs.put_item.Statement.{statement}
 use Rattle.ops.proofs.put_item.Tie as tie

@@ -1,4 +1,4 @@
-use Rattle.text.specs.PutLaws.{put-within, put-then}
+use Rattle.text.specs.laws.PutLaws.{put-within, put-then}
 use borrow.Author.Needs.{needs}
 use Rattle.ops.proofs.put_ldc.Statement.{statement}
 use Rattle.ops.proofs.put_ldc.Tie as tie

@@ -1,8 +1,8 @@
 use mathlib.Core.Path.{_≡_, refl, ap, _∙_}
 use Prim.Native.Nat.{ℕ}
 use Rattle.text.specs.Text.{valueText}
-use Rattle.ops.specs.Told.{literalAt}
-use Rattle.ops.specs.TextLaws.{put-as, item-text, literal-single}
+use Rattle.ops.specs.inner.Told.{literalTold}
+use Rattle.ops.specs.laws.TextLaws.{put-as, item-text, literal-single}
 use borrow.Author.Needs.{needs}
 use Rattle.ops.proofs.put_literal.Statement.{statement}
 use Rattle.ops.proofs.put_literal.Tie as tie
@@ -14,7 +14,7 @@ same-length : tie.Need-same-length
 same-length c = search needs
 
 returns : tie.Need-returns
-returns c = let s = c .before .before .before .before .before .before .before in let e : s .args .kind ≡ 5 = c .before .before .before .before .if1 .taken in put-as (ap (λ (k : ℕ). valueText (literalAt (s .args .program .now) k (s .args .len) (s .args .word))) e) (c .before .before .put-array .ensures)
+returns c = let s = c .before .before .before .before .before .before .before in let e : s .args .kind ≡ 5 = c .before .before .before .before .if1 .taken in put-as (ap (λ (k : ℕ). valueText (literalTold (s .args .program .now) k (s .args .len) (s .args .word))) e) (c .before .before .put-array .ensures)
 
 slice-aggregate-put-all : tie.Need-slice-aggregate-put-all
 slice-aggregate-put-all c = search needs
@@ -26,7 +26,7 @@ same-length-2 : tie.Need-same-length-2
 same-length-2 c = search needs
 
 returns-2 : tie.Need-returns-2
-returns-2 c = let s = c .before .before .before .before .before .before .before .before .before in let e : s .args .kind ≡ 6 = c .before .before .before .before .before .if2 .taken in put-as (ap (λ (k : ℕ). valueText (literalAt (s .args .program .now) k (s .args .len) (s .args .word))) e) (c .before .before .put-all .ensures)
+returns-2 c = let s = c .before .before .before .before .before .before .before .before .before in let e : s .args .kind ≡ 6 = c .before .before .before .before .before .if2 .taken in put-as (ap (λ (k : ℕ). valueText (literalTold (s .args .program .now) k (s .args .len) (s .args .word))) e) (c .before .before .put-all .ensures)
 
 single-requires : tie.Need-single-requires
 single-requires c κs = search needs

@@ -2,18 +2,18 @@ use mathlib.Core.Path.{_≡_, refl, sym, ap, subst}
 use Prim.Native.Nat.{ℕ, _-_, _≤_}
 use mathlib.Core.List.{_++_}
 use native.Mathlib.Omega.{arith}
-use Rattle.tables.specs.ProgramBytes.{tabulate}
-use Rattle.text.specs.Text.{ascii, decimal, fields}
+use Rattle.text.specs.Text.{ascii, decimal, numberFields}
 use Rattle.text.specs.Put.{Put}
-use Rattle.text.specs.PutLaws.{put-none, put-length, put-within}
-use Rattle.ops.specs.Told.{paramAt}
-use Rattle.ops.specs.TextLaws.{put-as, put-row}
+use Rattle.text.specs.laws.PutLaws.{put-none, put-length, put-within}
+use Rattle.ops.specs.inner.Told.{paramAt}
+use Rattle.ops.specs.laws.TextLaws.{put-as, put-row}
 use borrow.Author.Needs.{needs}
 use Rattle.ops.proofs.put_params.Statement.{statement}
 use Rattle.ops.proofs.put_params.Tie as tie
+use Rattle.lent.specs.Lists.{tabulate}
 
 abbrev Inv-loop : tie.InvT-loop
-Inv-loop out₀ at program first n p₀ i₀ out p i = (i ≤ n) × Put out₀ at (fields (tabulate first i (paramAt program))) out p
+Inv-loop out₀ at program first n p₀ i₀ out p i = (i ≤ n) × Put out₀ at (numberFields (tabulate first i (paramAt program))) out p
 
 abbrev μ-loop : tie.MeasureT-loop
 μ-loop out₀ at program first n p₀ i₀ out p i = n - i
@@ -46,13 +46,13 @@ loop-less : tie.Need-loop-less Inv-loop μ-loop
 loop-less c = omega (arith, c .before .before .before .before .before .loop-test .taken)
 
 loop-again : tie.Need-loop-again Inv-loop μ-loop
-loop-again c = let s = c .before .before .before .before .before .before .before .before .before in let l = c .before .before .before .before .before .before .loop in let f = paramAt (s .args .program .now) in (omega (arith, c .before .before .before .before .before .loop-test .taken), put-row (s .pre .0) (λ (k : ℕ). ascii " " ++ decimal (f k)) (λ (i n : ℕ). fields (tabulate i n f)) (λ i. refl) (λ i n. refl) (s .args .first) (l .i) (l .inv .1) (put-as (ap (λ (v : ℕ). ascii " " ++ decimal v) (sym (c .before .before .before .get-u64 .ensures))) (c .before .before .put-field .ensures)))
+loop-again c = let s = c .before .before .before .before .before .before .before .before .before in let l = c .before .before .before .before .before .before .loop in let f = paramAt (s .args .program .now) in (omega (arith, c .before .before .before .before .before .loop-test .taken), put-row (s .pre .0) (λ (k : ℕ). ascii " " ++ decimal (f k)) (λ (i n : ℕ). numberFields (tabulate i n f)) (λ i. refl) (λ i n. refl) (s .args .first) (l .i) (l .inv .1) (put-as (ap (λ (v : ℕ). ascii " " ++ decimal v) (sym (c .before .before .before .get-u64 .ensures))) (c .before .before .put-field .ensures)))
 
 same-length : tie.Need-same-length Inv-loop μ-loop
 same-length c = put-length (c .before .before .before .before .pre .0) (c .before .loop .inv .1)
 
 returns : tie.Need-returns Inv-loop μ-loop
-returns c = let s = c .before .before .before .before in let l = c .before .loop in let e : l .i ≡ s .args .n = omega (arith, l .inv .0, c .loop-test .left) in subst (λ (k : ℕ). Put (s .args .out .now) (s .args .at) (fields (tabulate (s .args .first) k (paramAt (s .args .program .now)))) (l .out) (l .p)) e (l .inv .1)
+returns c = let s = c .before .before .before .before in let l = c .before .loop in let e : l .i ≡ s .args .n = omega (arith, l .inv .0, c .loop-test .left) in subst (λ (k : ℕ). Put (s .args .out .now) (s .args .at) (numberFields (tabulate (s .args .first) k (paramAt (s .args .program .now)))) (l .out) (l .p)) e (l .inv .1)
 
 pub put-params-spec : {M : Type 1} → statement M
 put-params-spec =

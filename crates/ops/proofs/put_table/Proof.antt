@@ -3,18 +3,18 @@ use Prim.Native.Nat.{ℕ, _-_, _≤_}
 use native.Mathlib.Omega.{arith}
 use mathlib.Core.List.{List}
 use Rattle.lent.specs.Bytes.{concat}
-use Rattle.tables.specs.ProgramBytes.{tabulate}
 use Rattle.text.specs.Put.{Put}
-use Rattle.text.specs.PutLaws.{put-none, put-length, put-within}
-use Rattle.text.specs.Joined.{put-turn}
-use Rattle.ops.specs.Told.{entryLine, entryAt}
-use Rattle.ops.specs.TextLaws.{put-as}
+use Rattle.text.specs.laws.PutLaws.{put-none, put-length, put-within}
+use Rattle.text.specs.laws.Joined.{put-turn}
+use Rattle.ops.specs.inner.Told.{entryLine, tableEntry}
+use Rattle.ops.specs.laws.TextLaws.{put-as}
 use borrow.Author.Needs.{needs}
 use Rattle.ops.proofs.put_table.Statement.{statement}
 use Rattle.ops.proofs.put_table.Tie as tie
+use Rattle.lent.specs.Lists.{tabulate}
 
 abbrev Inv-loop : tie.InvT-loop
-Inv-loop out₀ at program name base n p₀ i₀ out p i = (i ≤ n) × Put out₀ at (concat (tabulate 0 i (λ k. entryLine name k (entryAt program base k)))) out p
+Inv-loop out₀ at program name base n p₀ i₀ out p i = (i ≤ n) × Put out₀ at (concat (tabulate 0 i (λ k. entryLine name k (tableEntry program base k)))) out p
 
 abbrev μ-loop : tie.MeasureT-loop
 μ-loop out₀ at program name base n p₀ i₀ out p i = n - i
@@ -41,13 +41,13 @@ loop-less : tie.Need-loop-less Inv-loop μ-loop
 loop-less c = omega (arith, c .before .before .before .before .before .loop-test .taken)
 
 loop-again : tie.Need-loop-again Inv-loop μ-loop
-loop-again c = let s = c .before .before .before .before .before .before .before .before .before .before in let l = c .before .before .before .before .before .before .loop in let t : ℕ → List ℕ = λ i. entryLine (s .args .name .now) i (entryAt (s .args .program .now) (s .args .base) i) in (omega (arith, c .before .before .before .before .before .loop-test .taken), put-turn (s .pre .0) t (λ (i n : ℕ). concat (tabulate i n t)) (λ i. refl) (λ i n. refl) (l .i) (l .inv .1) (put-as (ap (entryLine (s .args .name .now) (l .i)) (sym (c .before .before .before .get-u16 .ensures .0))) (c .before .before .put-entry .ensures)))
+loop-again c = let s = c .before .before .before .before .before .before .before .before .before .before in let l = c .before .before .before .before .before .before .loop in let t : ℕ → List ℕ = λ i. entryLine (s .args .name .now) i (tableEntry (s .args .program .now) (s .args .base) i) in (omega (arith, c .before .before .before .before .before .loop-test .taken), put-turn (s .pre .0) t (λ (i n : ℕ). concat (tabulate i n t)) (λ i. refl) (λ i n. refl) (l .i) (l .inv .1) (put-as (ap (entryLine (s .args .name .now) (l .i)) (sym (c .before .before .before .get-u16 .ensures .0))) (c .before .before .put-entry .ensures)))
 
 same-length : tie.Need-same-length Inv-loop μ-loop
 same-length c = put-length (c .before .before .before .before .before .pre .0) (c .before .loop .inv .1)
 
 returns : tie.Need-returns Inv-loop μ-loop
-returns c = let s = c .before .before .before .before .before in let l = c .before .loop in let e : l .i ≡ s .args .n = omega (arith, l .inv .0, c .loop-test .left) in subst (λ (k : ℕ). Put (s .args .out .now) (s .args .at) (concat (tabulate 0 k (λ i. entryLine (s .args .name .now) i (entryAt (s .args .program .now) (s .args .base) i)))) (l .out) (l .p)) e (l .inv .1)
+returns c = let s = c .before .before .before .before .before in let l = c .before .loop in let e : l .i ≡ s .args .n = omega (arith, l .inv .0, c .loop-test .left) in subst (λ (k : ℕ). Put (s .args .out .now) (s .args .at) (concat (tabulate 0 k (λ i. entryLine (s .args .name .now) i (tableEntry (s .args .program .now) (s .args .base) i)))) (l .out) (l .p)) e (l .inv .1)
 
 pub put-table-spec : {M : Type 1} → statement M
 put-table-spec =

@@ -4,8 +4,8 @@ use Prim.Native.Nat.{ℕ, _+_, _*_, _-_, _≤_}
 use native.Mathlib.Omega.{arith}
 use lib.Dec.{eqb}
 use borrow.Author.Tests.{eqb-true}
-use Rattle.records.specs.Fits.{recordAt}
-use Rattle.program.specs.Marked.{isFn, nameOf}
+use Rattle.records.specs.inner.Fits.{recordOk}
+use Rattle.program.specs.inner.Marked.{isFn, nameOf}
 use Rattle.records.proofs.Scan.{scan-at}
 use Rattle.records.proofs.Places.{first-byte, byte-of}
 use Rattle.program.proofs.Marks.{Filling, fill-first, fill-turn, fill-end, name-small}
@@ -41,7 +41,7 @@ mark-requires c κs =
     let a = c .before .before .before .before .before .before .before .args in
     let l = c .before .before .before .before .loop in
     let b = a .program .now in
-    let k = scan-at (recordAt b) (a .n) 0 (c .before .before .before .before .before .before .before .pre .2) (l .i) (omega arith) (omega arith) in
+    let k = scan-at (recordOk b) (a .n) 0 (c .before .before .before .before .before .before .before .pre .2) (l .i) (omega arith) (omega arith) in
     (omega arith, λ q. omega (arith, l .inv .1 .sized, byte-of b (16 * l .i) 4 (omega arith), name-small b (l .i) k (sym (first-byte b (16 * l .i)) ∙ eqb-true _ 16 q)))
 
 add-i : tie.Need-add-i Inv-loop μ-loop
@@ -56,7 +56,7 @@ loop-again c =
     let l = c .before .before .before .before .before .before .before .loop in
     let b = a .program .now in
     let at = 16 * l .i in
-    let k = scan-at (recordAt b) (a .n) 0 (c .before .before .before .before .before .before .before .before .before .before .pre .2) (l .i) (omega arith) (omega arith) in (
+    let k = scan-at (recordOk b) (a .n) 0 (c .before .before .before .before .before .before .before .before .before .before .pre .2) (l .i) (omega arith) (omega arith) in (
       omega arith,
       fill-turn (isFn b) (nameOf b) 64 (a .n) (a .t .now) (l .i) (l .t) (eqb (getD b at 0) 16) (getD b (at + 4) 0) (c .before .before .before .before .before .before .loop-test .taken) (l .inv .1)
           (ap (λ (x : ℕ). eqb x 16) (first-byte b at)) (byte-of b at 4 (omega arith)) (λ q. omega (arith, byte-of b at 4 (omega arith), name-small b (l .i) k (sym (first-byte b at) ∙ eqb-true (getD b at 0) 16 q)))

@@ -3,8 +3,8 @@ use mathlib.Core.Bool.{not}
 use lib.Dec.{ltb, eqb}
 use Prim.Native.Nat.{ℕ, _+_, _-_, _≤_}
 use native.Mathlib.Omega.{arith}
-use Rattle.records.specs.Fits.{recordAt}
-use Rattle.program.specs.Marked.{enters, lblOf, marked}
+use Rattle.records.specs.inner.Fits.{recordOk}
+use Rattle.program.specs.inner.Marked.{enters, lblOf, marked}
 use Rattle.records.proofs.Scan.{scan-at}
 use Rattle.program.proofs.Marks.{mark-length, mark-at, Filling, fill-first, fill-turn, fill-end, label-small}
 use Rattle.program.proofs.fill_labels.Statement.{statement}
@@ -38,7 +38,7 @@ mark-requires-2 c κs =
     let a = s .args in
     let l = c .before .before .before .loop in
     let b = a .program .now in
-    let k = scan-at (recordAt b) (a .n) 0 (s .pre .2) (l .i) (omega arith) (omega arith) in
+    let k = scan-at (recordOk b) (a .n) 0 (s .pre .2) (l .i) (omega arith) (omega arith) in
     (omega arith, λ _. omega (arith, l .inv .2 .sized, c .before .label2 .ensures, label-small b (l .i) k))
 
 add-i : tie.Need-add-i Inv-loop μ-loop
@@ -54,7 +54,7 @@ loop-again c =
     let l = c .before .before .before .before .before .before .loop in
     let b = a .program .now in
     let new = c .before .before .before .before .label2 in
-    let k = scan-at (recordAt b) (a .n) 0 (s .pre .2) (l .i) (omega arith) (omega arith) in
+    let k = scan-at (recordOk b) (a .n) 0 (s .pre .2) (l .i) (omega arith) (omega arith) in
     let e : l .i ≡ l .i + 1 - 1 = omega arith in (
       omega arith,
       new .ensures ∙ ap (lblOf b) e,

@@ -1,6 +1,6 @@
 use mathlib.Core.Path.{ap, _∙_}
 use lib.ListN.{getD-replicate}
-use Rattle.program.specs.Marked.{isFn, nameOf, marked, functionEntry}
+use Rattle.program.specs.inner.Marked.{isFn, nameOf, marked, functionEntry}
 use Rattle.program.proofs.Stored.{table-made}
 use borrow.Author.Needs.{needs}
 use Rattle.program.proofs.functions_ok.Statement.{statement}

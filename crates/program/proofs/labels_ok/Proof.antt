@@ -3,7 +3,7 @@ use mathlib.Core.Bool.{cond, _&&_}
 use Prim.Native.Nat.{ℕ}
 use lib.Dec.{ltb, eqb}
 use lib.ListN.{getD-replicate}
-use Rattle.program.specs.Marked.{enters, lblOf, marked, labelEntry}
+use Rattle.program.specs.inner.Marked.{enters, lblOf, marked, labelEntry}
 use Rattle.program.proofs.Stored.{table-made}
 use borrow.Author.Needs.{needs}
 use Rattle.program.proofs.labels_ok.Statement.{statement}

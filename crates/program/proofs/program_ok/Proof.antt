@@ -1,7 +1,7 @@
 use mathlib.Core.Path.{sym, _∙_}
 use native.Mathlib.Omega.{arith}
 use borrow.Author.Tests.{not-true, not-false}
-use Rattle.lent.specs.Each.{bytes-of}
+use Rattle.lent.specs.laws.Each.{bytes-of}
 use Rattle.program.proofs.Programs.{over-count, over-start, bad-records, bad-pool, tables-tell}
 use borrow.Author.Needs.{needs}
 use Rattle.program.proofs.program_ok.Statement.{statement}

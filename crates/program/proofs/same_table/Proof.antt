@@ -5,14 +5,14 @@ use native.Mathlib.Omega.{arith}
 use lib.Dec.{eqb}
 use lib.ListN.{length, getD}
 use Rattle.lent.specs.Bytes.{beValue, part}
-use Rattle.records.specs.Fits.{scan}
-use Rattle.program.specs.Marked.{sameTable}
+use Rattle.records.specs.inner.Fits.{allFrom}
+use Rattle.program.specs.inner.Marked.{sameTable}
 use Rattle.records.proofs.Scan.{scan-first, scan-turn, scan-end}
 use Rattle.program.proofs.same_table.Statement.{statement}
 use Rattle.program.proofs.same_table.Tie as tie
 
 abbrev Inv-loop : tie.InvT-loop
-Inv-loop program at t ok₀ l₀ ok l = (l ≤ length t) × (scan (length t) 0 (λ j. eqb (beValue (part program (at + 2 * j) 2) + 1) (getD t j 0)) ≡ (ok && scan (length t - l) l (λ j. eqb (beValue (part program (at + 2 * j) 2) + 1) (getD t j 0))))
+Inv-loop program at t ok₀ l₀ ok l = (l ≤ length t) × (allFrom (length t) 0 (λ j. eqb (beValue (part program (at + 2 * j) 2) + 1) (getD t j 0)) ≡ (ok && allFrom (length t - l) l (λ j. eqb (beValue (part program (at + 2 * j) 2) + 1) (getD t j 0))))
 
 abbrev μ-loop : tie.MeasureT-loop
 μ-loop program at t ok₀ l₀ ok l = length t - l

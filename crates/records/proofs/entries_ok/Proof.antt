@@ -2,13 +2,13 @@ use mathlib.Core.Path.{_≡_}
 use mathlib.Core.Bool.{_&&_}
 use Prim.Native.Nat.{_-_, _≤_}
 use native.Mathlib.Omega.{arith}
-use Rattle.records.specs.Fits.{scan, entryAt}
+use Rattle.records.specs.inner.Fits.{allFrom, entryOk}
 use Rattle.records.proofs.Scan.{scan-start, scan-turn, scan-end}
 use Rattle.records.proofs.entries_ok.Statement.{statement}
 use Rattle.records.proofs.entries_ok.Tie as tie
 
 abbrev Inv-loop : tie.InvT-loop
-Inv-loop program from n least most end ok₀ k₀ ok k = (k ≤ end) × (end ≤ 1024) × (scan n from (entryAt least most program) ≡ (ok && scan (end - k) k (entryAt least most program)))
+Inv-loop program from n least most end ok₀ k₀ ok k = (k ≤ end) × (end ≤ 1024) × (allFrom n from (entryOk least most program) ≡ (ok && allFrom (end - k) k (entryOk least most program)))
 
 abbrev μ-loop : tie.MeasureT-loop
 μ-loop program from n least most end ok₀ k₀ ok k = end - k
@@ -17,7 +17,7 @@ add-end : tie.Need-add-end Inv-loop μ-loop
 add-end c = omega arith
 
 loop-holds : tie.Need-loop-holds Inv-loop μ-loop
-loop-holds c = let a = c .before .args in (omega arith, omega arith, scan-start (entryAt (a .least) (a .most) (a .program .now)) (a .from) (a .n))
+loop-holds c = let a = c .before .args in (omega arith, omega arith, scan-start (entryOk (a .least) (a .most) (a .program .now)) (a .from) (a .n))
 
 entry-ok-requires : tie.Need-entry-ok-requires Inv-loop μ-loop
 entry-ok-requires c κs = let l = c .before .loop in (omega arith, omega arith)
@@ -32,13 +32,13 @@ loop-again : tie.Need-loop-again Inv-loop μ-loop
 loop-again c =
     let a = c .before .before .before .before .args in
     let l = c .before .before .loop in
-    (omega arith, l .inv .1, scan-turn (entryAt (a .least) (a .most) (a .program .now)) _ (l .k) (l .ok) (c .entry-ok .result) (c .before .loop-test .taken) (l .inv .2) (c .entry-ok .ensures))
+    (omega arith, l .inv .1, scan-turn (entryOk (a .least) (a .most) (a .program .now)) _ (l .k) (l .ok) (c .entry-ok .result) (c .before .loop-test .taken) (l .inv .2) (c .entry-ok .ensures))
 
 returns : tie.Need-returns Inv-loop μ-loop
 returns c =
     let a = c .before .before .before .args in
     let l = c .before .loop in
-    scan-end (entryAt (a .least) (a .most) (a .program .now)) _ (l .k) (l .ok) (c .loop-test .left) (l .inv .2)
+    scan-end (entryOk (a .least) (a .most) (a .program .now)) _ (l .k) (l .ok) (c .loop-test .left) (l .inv .2)
 
 pub entries-ok-spec : {M : Type 1} → statement M
 entries-ok-spec =

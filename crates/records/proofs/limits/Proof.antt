@@ -1,6 +1,6 @@
 use mathlib.Core.Path.{_≡_}
 use Rattle.opc.proofs.Laws.{none-picked}
-use Rattle.records.specs.Fits.{noKind, limitTable}
+use Rattle.records.specs.inner.Fits.{noKind, limitTable}
 use Rattle.records.proofs.limits.Statement.{statement}
 use Rattle.records.proofs.limits.Tie as tie
 

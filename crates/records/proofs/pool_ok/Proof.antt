@@ -3,7 +3,7 @@ use mathlib.Core.Bool.{_&&_}
 use Prim.Native.Nat.{_-_, _≤_}
 use lib.Dec.{leb}
 use native.Mathlib.Omega.{arith}
-use Rattle.records.specs.Fits.{poolFits}
+use Rattle.records.specs.inner.Fits.{poolFits}
 use Rattle.records.proofs.PoolSteps.{pool-first, pool-turn, pool-small, pool-end}
 use Rattle.records.proofs.pool_ok.Statement.{statement}
 use Rattle.records.proofs.pool_ok.Tie as tie

@@ -2,12 +2,13 @@ use mathlib.Core.Path.{refl, sym, ap₂, _∙_}
 use Prim.Native.Nat.{ℕ, _*_}
 use native.Mathlib.Omega.{arith}
 use borrow.Author.Tests.{eq-eqb, ne-eqb}
-use Rattle.records.specs.Fits.{recordOf, isArray}
+use Rattle.records.specs.inner.Fits.{isArray}
 use Rattle.records.proofs.Places.{first-byte, byte-of}
 use Rattle.records.proofs.PoolSteps.{pooled-array, pooled-fn, pooled-none}
 use borrow.Author.Needs.{needs}
 use Rattle.records.proofs.pooled.Statement.{statement}
 use Rattle.records.proofs.pooled.Tie as tie
+use Rattle.opc.specs.inner.Fetch.{recordAt}
 
 mul-at : tie.Need-mul-at
 mul-at c = search needs
@@ -32,7 +33,7 @@ returns c =
     let a = c .before .before .before .before .before .before .args in
     let b = a .program .now in
     let at = 16 * a .i in
-    pooled-array b (recordOf b (a .i)) (a .next) (ap₂ (λ (x y : ℕ). isArray x y) (sym (first-byte b at)) (sym (byte-of b at 1 (omega arith))) ∙ sym (c .before .before .is-array .ensures) ∙ c .before .if1 .taken) (c .entries .ensures)
+    pooled-array b (recordAt b (a .i)) (a .next) (ap₂ (λ (x y : ℕ). isArray x y) (sym (first-byte b at)) (sym (byte-of b at 1 (omega arith))) ∙ sym (c .before .before .is-array .ensures) ∙ c .before .if1 .taken) (c .entries .ensures)
 
 entries-requires-2 : tie.Need-entries-requires-2
 entries-requires-2 c κs = search needs
@@ -42,16 +43,16 @@ returns-2 c =
     let a = c .before .before .before .before .before .before .before .args in
     let b = a .program .now in
     let at = 16 * a .i in
-    pooled-fn b (recordOf b (a .i)) (a .next) (ap₂ (λ (x y : ℕ). isArray x y) (sym (first-byte b at)) (sym (byte-of b at 1 (omega arith))) ∙ sym (c .before .before .before .is-array .ensures) ∙ c .before .before .if1 .left)
-    (eq-eqb (recordOf b (a .i) .code) 16 (sym (first-byte b at) ∙ c .before .if2 .taken)) (c .entries2 .ensures)
+    pooled-fn b (recordAt b (a .i)) (a .next) (ap₂ (λ (x y : ℕ). isArray x y) (sym (first-byte b at)) (sym (byte-of b at 1 (omega arith))) ∙ sym (c .before .before .before .is-array .ensures) ∙ c .before .before .if1 .left)
+    (eq-eqb (recordAt b (a .i) .code) 16 (sym (first-byte b at) ∙ c .before .if2 .taken)) (c .entries2 .ensures)
 
 returns-3 : tie.Need-returns-3
 returns-3 c =
     let a = c .before .before .before .before .before .before .args in
     let b = a .program .now in
     let at = 16 * a .i in
-    pooled-none b (recordOf b (a .i)) (a .next) (ap₂ (λ (x y : ℕ). isArray x y) (sym (first-byte b at)) (sym (byte-of b at 1 (omega arith))) ∙ sym (c .before .before .is-array .ensures) ∙ c .before .if1 .left)
-    (ne-eqb (recordOf b (a .i) .code) 16 (λ q. c .if2 .left (first-byte b at ∙ q))) refl
+    pooled-none b (recordAt b (a .i)) (a .next) (ap₂ (λ (x y : ℕ). isArray x y) (sym (first-byte b at)) (sym (byte-of b at 1 (omega arith))) ∙ sym (c .before .before .is-array .ensures) ∙ c .before .if1 .left)
+    (ne-eqb (recordAt b (a .i) .code) 16 (λ q. c .if2 .left (first-byte b at ∙ q))) refl
 
 pub pooled-spec : {M : Type 1} → statement M
 pooled-spec =

@@ -3,19 +3,19 @@ use mathlib.Core.Bool.{_&&_}
 use Prim.Native.Nat.{_-_, _≤_}
 use native.Mathlib.Omega.{arith}
 use borrow.Author.Needs.{needs}
-use Rattle.records.specs.Fits.{scan, recordFits, recordAt}
+use Rattle.records.specs.inner.Fits.{allFrom, recordFits, recordOk}
 use Rattle.records.proofs.Scan.{scan-first, scan-turn, scan-end}
 use Rattle.records.proofs.records_ok.Statement.{statement}
 use Rattle.records.proofs.records_ok.Tie as tie
 
 abbrev Inv-loop : tie.InvT-loop
-Inv-loop program n ok₀ i₀ ok i = (i ≤ n) × (scan n 0 (recordAt program) ≡ (ok && scan (n - i) i (recordAt program)))
+Inv-loop program n ok₀ i₀ ok i = (i ≤ n) × (allFrom n 0 (recordOk program) ≡ (ok && allFrom (n - i) i (recordOk program)))
 
 abbrev μ-loop : tie.MeasureT-loop
 μ-loop program n ok₀ i₀ ok i = n - i
 
 loop-holds : tie.Need-loop-holds Inv-loop μ-loop
-loop-holds c = let a = c .before .args in (omega arith, scan-first (recordAt (a .program .now)) (a .n))
+loop-holds c = let a = c .before .args in (omega arith, scan-first (recordOk (a .program .now)) (a .n))
 
 fetch-fields-requires : tie.Need-fetch-fields-requires Inv-loop μ-loop
 fetch-fields-requires c κs = omega arith
@@ -33,13 +33,13 @@ loop-again : tie.Need-loop-again Inv-loop μ-loop
 loop-again c =
     let a = c .before .before .before .before .before .args in
     let l = c .before .before .before .loop in
-    (omega arith, scan-turn (recordAt (a .program .now)) (a .n) (l .i) (l .ok) (c .record-ok .result) (c .before .before .loop-test .taken) (l .inv .1) (c .record-ok .ensures ∙ ap recordFits (c .before .fetch-fields .ensures)))
+    (omega arith, scan-turn (recordOk (a .program .now)) (a .n) (l .i) (l .ok) (c .record-ok .result) (c .before .before .loop-test .taken) (l .inv .1) (c .record-ok .ensures ∙ ap recordFits (c .before .fetch-fields .ensures)))
 
 returns : tie.Need-returns Inv-loop μ-loop
 returns c =
     let a = c .before .before .before .args in
     let l = c .before .loop in
-    scan-end (recordAt (a .program .now)) (a .n) (l .i) (l .ok) (c .loop-test .left) (l .inv .1)
+    scan-end (recordOk (a .program .now)) (a .n) (l .i) (l .ok) (c .loop-test .left) (l .inv .1)
 
 pub records-ok-spec : {M : Type 1} → statement M
 records-ok-spec =

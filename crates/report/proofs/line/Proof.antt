@@ -1,5 +1,5 @@
 -- `report::line` meets its contract. Assumes nothing.
-use Rattle.report.specs.Told.{line-law}
+use Rattle.report.specs.laws.Told.{line-law}
 use native.Mathlib.Omega.{arith}
 use borrow.Author.Needs.{needs}
 use Rattle.report.proofs.line.Statement.{statement}

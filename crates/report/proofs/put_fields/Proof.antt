@@ -1,5 +1,5 @@
 -- `report::put_fields` meets its contract. Assumes nothing.
-use Rattle.report.specs.Told.{fields-written}
+use Rattle.report.specs.laws.Told.{fields-written}
 use borrow.Author.Needs.{needs}
 use Rattle.report.proofs.put_fields.Statement.{statement}
 use Rattle.report.proofs.put_fields.Tie as tie

@@ -1,6 +1,6 @@
 -- `report::write_report` meets its contract. Assumes nothing.
 use lib.ListN.{drop}
-use Rattle.report.specs.Told.{told-done, told-spent, told-stopped}
+use Rattle.report.specs.laws.Told.{told-done, told-spent, told-stopped}
 use borrow.Author.Needs.{needs}
 use Rattle.report.proofs.write_report.Statement.{statement}
 use Rattle.report.proofs.write_report.Tie as tie

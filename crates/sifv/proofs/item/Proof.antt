@@ -1,7 +1,7 @@
 -- `sifv::item` meets its contract. Assumes nothing.
 use mathlib.Core.Path.{refl}
 use native.Mathlib.Omega.{arith}
-use Rattle.sifv.specs.Boxed.{item-law, item-below}
+use Rattle.sifv.specs.laws.Boxed.{item-law, item-below}
 use borrow.Author.Needs.{needs}
 use Rattle.sifv.proofs.item.Statement.{statement}
 use Rattle.sifv.proofs.item.Tie as tie

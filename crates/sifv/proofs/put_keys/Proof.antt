@@ -1,7 +1,7 @@
 -- `sifv::put_keys` meets its contract. Assumes nothing.
 use borrow.Author.Needs.{needs}
 use Rattle.sifv.proofs.Keys.{keys-turn}
-use Rattle.lent.specs.Parts.{splice-none}
+use Rattle.lent.specs.laws.Parts.{splice-none}
 use Rattle.lent.specs.Bytes.{part, splice}
 use lib.ListN.{length, getD, set}
 use lib.Dec.{ltb}

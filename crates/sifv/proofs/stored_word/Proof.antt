@@ -2,7 +2,7 @@
 use mathlib.Core.Path.{_≡_, sym, ap, _∙_}
 use Prim.Native.Nat.{ℕ}
 use Rattle.sifv.specs.Slot.{wordOf, singleOf}
-use Rattle.sifv.specs.Formed.{word-single}
+use Rattle.sifv.specs.laws.Formed.{word-single}
 use borrow.Author.Needs.{needs}
 use Rattle.sifv.proofs.stored_word.Statement.{statement}
 use Rattle.sifv.proofs.stored_word.Tie as tie

@@ -4,8 +4,8 @@ use Prim.Native.Nat.{ℕ, _-_, _≤_}
 use native.Mathlib.Omega.{arith}
 use lib.Dec.{leb}
 use Rattle.vm.specs.StateBytes.{upto}
-use Rattle.state.specs.Fields.{fnTest, fnsOk}
-use Rattle.state.specs.Checks.{scan-turn, scan-end}
+use Rattle.state.specs.inner.Fields.{fnTest, fnsOk}
+use Rattle.state.specs.laws.Checks.{scan-turn, scan-end}
 use Rattle.state.proofs.fns_ok.Statement.{statement}
 use Rattle.state.proofs.fns_ok.Tie as tie
 

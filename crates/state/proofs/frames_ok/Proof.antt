@@ -5,8 +5,8 @@ use Prim.Native.Nat.{ℕ, _-_, _≤_}
 use native.Mathlib.Omega.{arith}
 use lib.Dec.{ltb, eqb}
 use Rattle.vm.specs.StateBytes.{upto}
-use Rattle.state.specs.Fields.{frameOk, frameTest, framesOk}
-use Rattle.state.specs.Checks.{scan-turn, scan-end}
+use Rattle.state.specs.inner.Fields.{frameOk, frameTest, framesOk}
+use Rattle.state.specs.laws.Checks.{scan-turn, scan-end}
 use Rattle.state.proofs.frames_ok.Statement.{statement}
 use Rattle.state.proofs.frames_ok.Tie as tie
 

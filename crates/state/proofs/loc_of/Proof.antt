@@ -1,7 +1,7 @@
 -- `state::loc_of` meets its contract. Assumes nothing.
 use mathlib.Core.Path.{_∙_}
 use native.Mathlib.Omega.{arith}
-use Rattle.lent.specs.Numbers.{beValue-one}
+use Rattle.lent.specs.laws.Numbers.{beValue-one}
 use borrow.Author.Needs.{needs}
 use Rattle.state.proofs.loc_of.Statement.{statement}
 use Rattle.state.proofs.loc_of.Tie as tie

@@ -1,6 +1,6 @@
 -- `state::mark_of` meets its contract. Assumes nothing.
 use native.Mathlib.Omega.{arith}
-use Rattle.state.specs.Marks.{Marking, marking-start, marking-turn, marking-room, marking-end}
+use Rattle.state.specs.laws.Marks.{Marking, marking-start, marking-turn, marking-room, marking-end}
 use Rattle.state.proofs.mark_of.Statement.{statement}
 use Rattle.state.proofs.mark_of.Tie as tie
 

@@ -3,8 +3,8 @@ use mathlib.Core.Path.{_≡_, refl}
 use Prim.Native.Nat.{_-_, _≤_}
 use native.Mathlib.Omega.{arith}
 use Rattle.vm.specs.StateBytes.{upto}
-use Rattle.state.specs.Fields.{slotTest, slotsOk}
-use Rattle.state.specs.Checks.{scan-turn, scan-end}
+use Rattle.state.specs.inner.Fields.{slotTest, slotsOk}
+use Rattle.state.specs.laws.Checks.{scan-turn, scan-end}
 use Rattle.state.proofs.slots_ok.Statement.{statement}
 use Rattle.state.proofs.slots_ok.Tie as tie
 

@@ -1,11 +1,11 @@
 -- `state::start` meets its contract. Assumes nothing.
 use mathlib.Core.Path.{_∙_}
 use native.Mathlib.Omega.{arith}
-use Rattle.execute.specs.Programs.{programOf}
-use Rattle.state.specs.Starts.{start-written}
+use Rattle.state.specs.laws.Starts.{start-written}
 use borrow.Author.Needs.{needs}
 use Rattle.state.proofs.start.Statement.{statement}
 use Rattle.state.proofs.start.Tie as tie
+use Rattle.execute.specs.inner.ProgramView.{programIn}
 
 clear-requires : tie.Need-clear-requires
 clear-requires c κs = search needs
@@ -34,7 +34,7 @@ same-length c = c .before .before .put-u16 .kept .0 ∙ c .before .before .befor
 returns : tie.Need-returns
 returns c =
     let a = c .before .before .before .before .before .before .before .before .before .before .before .before .before .before .before .before .args in
-    start-written (a .state .now) (a .program .now) (programOf (a .program .now)) (c .before .before .before .before .before .before .before .before .before .before .before .before .before .before .before .before .pre .1) (c .before .before .before .before .before .before .before .before .before .before .before .before .before .before .before .before .pre .2)
+    start-written (a .state .now) (a .program .now) (programIn (a .program .now)) (c .before .before .before .before .before .before .before .before .before .before .before .before .before .before .before .before .pre .1) (c .before .before .before .before .before .before .before .before .before .before .before .before .before .before .before .before .pre .2)
     (c .before .before .before .before .before .before .before .before .before .before .before .before .clear .ensures) (c .before .before .before .before .before .before .before .copy .ensures) (c .before .before .before .get-u16 .ensures .0) (c .before .before .put-u16 .ensures)
 
 pub start-spec : {M : Type 1} → statement M

@@ -3,10 +3,10 @@ use mathlib.Core.Path.{ap, ap₂, _∙_}
 use mathlib.Core.Bool.{Bool, _&&_}
 use lib.Dec.{eqb}
 use native.Mathlib.Omega.{arith}
-use Rattle.lent.specs.Each.{bytes-of}
+use Rattle.lent.specs.laws.Each.{bytes-of}
 use Rattle.execute.specs.declared.Loc.{Loc}
-use Rattle.state.specs.Fields.{stackOk, framesOk}
-use Rattle.state.specs.Checks.{fields-law}
+use Rattle.state.specs.inner.Fields.{stackOk, framesOk}
+use Rattle.state.specs.laws.Checks.{fields-law}
 use borrow.Author.Needs.{needs}
 use Rattle.state.proofs.state_ok.Statement.{statement}
 use Rattle.state.proofs.state_ok.Tie as tie

@@ -1,5 +1,5 @@
 -- `state::write_back` meets its contract. Assumes nothing.
-use Rattle.state.specs.Whole.{run-written}
+use Rattle.state.specs.laws.Whole.{run-written}
 use borrow.Author.Needs.{needs}
 use Rattle.state.proofs.write_back.Statement.{statement}
 use Rattle.state.proofs.write_back.Tie as tie

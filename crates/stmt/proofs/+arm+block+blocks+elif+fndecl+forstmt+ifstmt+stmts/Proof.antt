@@ -4,14 +4,14 @@ use Prim.Native.Nat.{_+_, _-_, _*_, suc}
 use lib.ListN.{length, getD}
 use borrow.Author.Needs.{needs}
 use Rattle.emit.specs.declared.Done.{Done}
-use Rattle.emit.specs.Loops.{Left, left-start, left-turn, left-end}
-use Rattle.stmt.specs.Parts.{lists}
-use Rattle.stmt.specs.Kinds.{kind-here, others}
-use Rattle.stmt.specs.Simple.{stmt-room}
-use Rattle.stmt.specs.Lists.{list-none, list-first, list-falls, list-next, list-goes, body-list, body-none, body-some, block-reads, block-goes, one-fewer}
-use Rattle.stmt.specs.Arms.{arm-reads, test-ready, test-label, jump-ready, arm-block-reads, arm-falls, block-ready, block-room, end-ready, rest-reads, rest-falls, rest-ready, arm-goes, if-counts, if-reads, if-goes, elif-room, elif-reads, elif-goes, elif-falls, else-reads, else-asks, else-goes}
-use Rattle.stmt.specs.ForLaws.{is-a-for, for-room, for-source-reads, head-asks, for-block-reads, for-falls, tail-asks, for-goes}
-use Rattle.stmt.specs.FnLaws.{is-a-fn, fn-block-reads, fn-falls, fn-label, fn-goes}
+use Rattle.emit.specs.laws.Loops.{Left, left-start, left-turn, left-end}
+use Rattle.stmt.specs.inner.Parts.{lists}
+use Rattle.stmt.specs.laws.Kinds.{kind-here, others}
+use Rattle.stmt.specs.laws.Simple.{stmt-room}
+use Rattle.stmt.specs.laws.Lists.{list-none, list-first, list-falls, list-next, list-goes, body-list, body-none, body-some, block-reads, block-goes, one-fewer}
+use Rattle.stmt.specs.laws.Arms.{arm-reads, test-ready, test-label, jump-ready, arm-block-reads, arm-falls, block-ready, block-room, end-ready, rest-reads, rest-falls, rest-ready, arm-goes, if-counts, if-reads, if-goes, elif-room, elif-reads, elif-goes, elif-falls, else-reads, else-asks, else-goes}
+use Rattle.stmt.specs.laws.ForLaws.{is-a-for, for-room, for-source-reads, head-asks, for-block-reads, for-falls, tail-asks, for-goes}
+use Rattle.stmt.specs.laws.FnLaws.{is-a-fn, fn-block-reads, fn-falls, fn-label, fn-goes}
 use Prim.Native.Nat.{ℕ, _<_}
 use borrow.Fn.Kinds.{In}
 use borrow.Fn.PlainCycle.{Measures, is, falls, and}
@@ -132,1251 +132,274 @@ stmts-at t = and 3 stmts-kinds.ps (is 3 stmts-kinds.ps μ-stmts t) stmts.Pre
 abbrev stmts-below : ℕ → In 3 stmts-kinds.ps
 stmts-below t = and 3 stmts-kinds.ps (falls 3 stmts-kinds.ps _<_ μ-stmts t) stmts.Pre
 
-arm-expr-at-requires : (t : ℕ) → arm-lts.Need-expr-at-requires (
-  expr-at-reads.Asked,
-  expr-at-reads.Learnt,
-  jump-false-reads.Asked,
-  jump-false-reads.Learnt,
-  block-below t,
-  block.Post,
-  jump-end-reads.Asked,
-  jump-end-reads.Learnt,
-  update-op-at-reads.Asked,
-  update-op-at-reads.Learnt,
-  elif-below t,
-  elif.Post,
-) (arm-at t) arm.Post
+-- what the functions called ask and ensure
+
+abbrev arm-claims : ℕ → arm-lts.Claims
+arm-claims t = (expr-at-reads.Asked, expr-at-reads.Learnt, jump-false-reads.Asked, jump-false-reads.Learnt, block-below t, block.Post, jump-end-reads.Asked, jump-end-reads.Learnt, update-op-at-reads.Asked, update-op-at-reads.Learnt, elif-below t, elif.Post)
+
+abbrev block-claims : ℕ → block-lts.Claims
+block-claims t = (pass-reads.Asked, pass-reads.Learnt, blocks-below t, blocks.Post, ifstmt-below t, ifstmt.Post, forstmt-below t, forstmt.Post, ret-reads.Asked, ret-reads.Learnt, expr-stmt-reads.Asked, expr-stmt-reads.Learnt, vardecl-reads.Asked, vardecl-reads.Learnt, fndecl-below t, fndecl.Post)
+
+abbrev blocks-claims : ℕ → blocks-lts.Claims
+blocks-claims t = (nop-reads.Asked, nop-reads.Learnt, stmts-below t, stmts.Post)
+
+abbrev elif-claims : ℕ → elif-lts.Claims
+elif-claims t = (stmts-below t, stmts.Post, if-end-reads.Asked, if-end-reads.Learnt, pass-reads.Asked, pass-reads.Learnt, arm-below t, arm.Post)
+
+abbrev fndecl-claims : ℕ → fndecl-lts.Claims
+fndecl-claims t = (fn-head-reads.Asked, fn-head-reads.Learnt, block-below t, block.Post, newlbl-reads.Asked, newlbl-reads.Learnt)
+
+abbrev forstmt-claims : ℕ → forstmt-lts.Claims
+forstmt-claims t = (source-name-reads.Asked, source-name-reads.Learnt, nextreg-reads.Asked, nextreg-reads.Learnt, start-reads.Asked, start-reads.Learnt, source-reads.Asked, source-reads.Learnt, for-head-reads.Asked, for-head-reads.Learnt, block-below t, block.Post, for-tail-reads.Asked, for-tail-reads.Learnt)
+
+abbrev ifstmt-claims : ℕ → ifstmt-lts.Claims
+ifstmt-claims t = (pass-reads.Asked, pass-reads.Learnt, arm-below t, arm.Post)
+
+abbrev stmts-claims : ℕ → stmts-lts.Claims
+stmts-claims t = (block-below t, block.Post)
+
+arm-expr-at-requires : (t : ℕ) → arm-lts.Need-expr-at-requires (arm-claims t) (arm-at t) arm.Post
 arm-expr-at-requires t c κs = arm-reads (c .before .before .before .before .args .n) (c .before .before .before .before .args .rest) (c .before .before .before .before .args .contents .now) (c .before .before .before .before .args .bodies .now) (c .before .before .before .before .args .p) (c .before .before .before .before .pre .1)
 
-arm-jump-false-requires : (t : ℕ) → arm-lts.Need-jump-false-requires (
-  expr-at-reads.Asked,
-  expr-at-reads.Learnt,
-  jump-false-reads.Asked,
-  jump-false-reads.Learnt,
-  block-below t,
-  block.Post,
-  jump-end-reads.Asked,
-  jump-end-reads.Learnt,
-  update-op-at-reads.Asked,
-  update-op-at-reads.Learnt,
-  elif-below t,
-  elif.Post,
-) (arm-at t) arm.Post
+arm-jump-false-requires : (t : ℕ) → arm-lts.Need-jump-false-requires (arm-claims t) (arm-at t) arm.Post
 arm-jump-false-requires t c κs = (test-ready (c .before .before .before .before .before .before .before .before .args .n) (c .before .before .before .before .before .before .before .before .args .rest) (c .before .before .before .before .before .before .before .before .args .contents .now) (c .before .before .before .before .before .before .before .before .args .bodies .now) (c .before .before .before .before .before .before .before .before .args .p) (c .before .before .before .before .before .before .before .before .pre .1) (c .before .before .before .expr-at .ensures), test-label (c .before .before .before .before .before .before .before .before .args .n) (c .before .before .before .before .before .before .before .before .args .rest) (c .before .before .before .before .before .before .before .before .args .contents .now) (c .before .before .before .before .before .before .before .before .args .bodies .now) (c .before .before .before .before .before .before .before .before .args .p) (c .before .before .before .before .before .before .before .before .pre .1) (c .before .before .before .expr-at .ensures))
 
-arm-block-requires : (t : ℕ) → arm-lts.Need-block-requires (
-  expr-at-reads.Asked,
-  expr-at-reads.Learnt,
-  jump-false-reads.Asked,
-  jump-false-reads.Learnt,
-  block-below t,
-  block.Post,
-  jump-end-reads.Asked,
-  jump-end-reads.Learnt,
-  update-op-at-reads.Asked,
-  update-op-at-reads.Learnt,
-  elif-below t,
-  elif.Post,
-) (arm-at t) arm.Post
+arm-block-requires : (t : ℕ) → arm-lts.Need-block-requires (arm-claims t) (arm-at t) arm.Post
 arm-block-requires t c κs = (omega (arith, c .before .before .before .before .before .before .before .before .before .before .before .before .pre .0, arm-falls (c .before .before .before .before .before .before .before .before .before .before .before .before .args .n) (c .before .before .before .before .before .before .before .before .before .before .before .before .args .rest) (c .before .before .before .before .before .before .before .before .before .before .before .before .args .contents .now) (c .before .before .before .before .before .before .before .before .before .before .before .before .args .bodies .now) (c .before .before .before .before .before .before .before .before .before .before .before .before .args .p) (c .before .before .before .before .before .before .before .before .before .before .before .before .pre .1) (c .before .before .before .before .before .before .before .expr-at .ensures) (c .before .before .before .jump-false .ensures) .0, arm-falls (c .before .before .before .before .before .before .before .before .before .before .before .before .args .n) (c .before .before .before .before .before .before .before .before .before .before .before .before .args .rest) (c .before .before .before .before .before .before .before .before .before .before .before .before .args .contents .now) (c .before .before .before .before .before .before .before .before .before .before .before .before .args .bodies .now) (c .before .before .before .before .before .before .before .before .before .before .before .before .args .p) (c .before .before .before .before .before .before .before .before .before .before .before .before .pre .1) (c .before .before .before .before .before .before .before .expr-at .ensures) (c .before .before .before .jump-false .ensures) .1), arm-block-reads (c .before .before .before .before .before .before .before .before .before .before .before .before .args .n) (c .before .before .before .before .before .before .before .before .before .before .before .before .args .rest) (c .before .before .before .before .before .before .before .before .before .before .before .before .args .contents .now) (c .before .before .before .before .before .before .before .before .before .before .before .before .args .bodies .now) (c .before .before .before .before .before .before .before .before .before .before .before .before .args .p) (c .before .before .before .before .before .before .before .before .before .before .before .before .pre .1) (c .before .before .before .before .before .before .before .expr-at .ensures) (c .before .before .before .jump-false .ensures))
 
-arm-jump-end-requires : (t : ℕ) → arm-lts.Need-jump-end-requires (
-  expr-at-reads.Asked,
-  expr-at-reads.Learnt,
-  jump-false-reads.Asked,
-  jump-false-reads.Learnt,
-  block-below t,
-  block.Post,
-  jump-end-reads.Asked,
-  jump-end-reads.Learnt,
-  update-op-at-reads.Asked,
-  update-op-at-reads.Learnt,
-  elif-below t,
-  elif.Post,
-) (arm-at t) arm.Post
+arm-jump-end-requires : (t : ℕ) → arm-lts.Need-jump-end-requires (arm-claims t) (arm-at t) arm.Post
 arm-jump-end-requires t c κs = (block-ready (c .before .before .before .before .before .before .before .before .before .before .before .before .before .before .before .before .args .n) (c .before .before .before .before .before .before .before .before .before .before .before .before .before .before .before .before .args .rest) (c .before .before .before .before .before .before .before .before .before .before .before .before .before .before .before .before .args .contents .now) (c .before .before .before .before .before .before .before .before .before .before .before .before .before .before .before .before .args .bodies .now) (c .before .before .before .before .before .before .before .before .before .before .before .before .before .before .before .before .args .p) (c .before .before .before .before .before .before .before .before .before .before .before .before .before .before .before .before .pre .1) (c .before .before .before .before .before .before .before .before .before .before .before .expr-at .ensures) (c .before .before .before .before .before .before .before .jump-false .ensures) (c .before .before .before .block .ensures), block-room (c .before .before .before .before .before .before .before .before .before .before .before .before .before .before .before .before .args .n) (c .before .before .before .before .before .before .before .before .before .before .before .before .before .before .before .before .args .rest) (c .before .before .before .before .before .before .before .before .before .before .before .before .before .before .before .before .args .contents .now) (c .before .before .before .before .before .before .before .before .before .before .before .before .before .before .before .before .args .bodies .now) (c .before .before .before .before .before .before .before .before .before .before .before .before .before .before .before .before .args .p) (c .before .before .before .before .before .before .before .before .before .before .before .before .before .before .before .before .pre .1) (c .before .before .before .before .before .before .before .before .before .before .before .expr-at .ensures) (c .before .before .before .before .before .before .before .jump-false .ensures) (c .before .before .before .block .ensures))
 
-arm-update-op-at-requires : (t : ℕ) → arm-lts.Need-update-op-at-requires (
-  expr-at-reads.Asked,
-  expr-at-reads.Learnt,
-  jump-false-reads.Asked,
-  jump-false-reads.Learnt,
-  block-below t,
-  block.Post,
-  jump-end-reads.Asked,
-  jump-end-reads.Learnt,
-  update-op-at-reads.Asked,
-  update-op-at-reads.Learnt,
-  elif-below t,
-  elif.Post,
-) (arm-at t) arm.Post
+arm-update-op-at-requires : (t : ℕ) → arm-lts.Need-update-op-at-requires (arm-claims t) (arm-at t) arm.Post
 arm-update-op-at-requires t c κs = (jump-ready (c .before .before .before .before .before .before .before .before .before .before .before .before .before .before .before .before .before .before .before .before .args .n) (c .before .before .before .before .before .before .before .before .before .before .before .before .before .before .before .before .before .before .before .before .args .rest) (c .before .before .before .before .before .before .before .before .before .before .before .before .before .before .before .before .before .before .before .before .args .contents .now) (c .before .before .before .before .before .before .before .before .before .before .before .before .before .before .before .before .before .before .before .before .args .bodies .now) (c .before .before .before .before .before .before .before .before .before .before .before .before .before .before .before .before .before .before .before .before .args .p) (c .before .before .before .before .before .before .before .before .before .before .before .before .before .before .before .before .before .before .before .before .pre .1) (c .before .before .before .before .before .before .before .before .before .before .before .before .before .before .before .expr-at .ensures) (c .before .before .before .before .before .before .before .before .before .before .before .jump-false .ensures) .records, end-ready (c .before .before .before .before .before .before .before .before .before .before .before .before .before .before .before .before .before .before .before .before .args .n) (c .before .before .before .before .before .before .before .before .before .before .before .before .before .before .before .before .before .before .before .before .args .rest) (c .before .before .before .before .before .before .before .before .before .before .before .before .before .before .before .before .before .before .before .before .args .contents .now) (c .before .before .before .before .before .before .before .before .before .before .before .before .before .before .before .before .before .before .before .before .args .bodies .now) (c .before .before .before .before .before .before .before .before .before .before .before .before .before .before .before .before .before .before .before .before .args .p) (c .before .before .before .before .before .before .before .before .before .before .before .before .before .before .before .before .before .before .before .before .pre .1) (c .before .before .before .before .before .before .before .before .before .before .before .before .before .before .before .expr-at .ensures) (c .before .before .before .before .before .before .before .before .before .before .before .jump-false .ensures) (c .before .before .before .before .before .before .before .block .ensures) (c .before .before .before .jump-end .ensures) .room)
 
-arm-elif-requires : (t : ℕ) → arm-lts.Need-elif-requires (
-  expr-at-reads.Asked,
-  expr-at-reads.Learnt,
-  jump-false-reads.Asked,
-  jump-false-reads.Learnt,
-  block-below t,
-  block.Post,
-  jump-end-reads.Asked,
-  jump-end-reads.Learnt,
-  update-op-at-reads.Asked,
-  update-op-at-reads.Learnt,
-  elif-below t,
-  elif.Post,
-) (arm-at t) arm.Post
+arm-elif-requires : (t : ℕ) → arm-lts.Need-elif-requires (arm-claims t) (arm-at t) arm.Post
 arm-elif-requires t c κs = (omega (arith, c .before .before .before .before .before .before .before .before .before .before .before .before .before .before .before .before .before .before .before .before .before .before .before .before .pre .0, rest-falls (c .before .before .before .before .before .before .before .before .before .before .before .before .before .before .before .before .before .before .before .before .before .before .before .before .args .n) (c .before .before .before .before .before .before .before .before .before .before .before .before .before .before .before .before .before .before .before .before .before .before .before .before .args .rest) (c .before .before .before .before .before .before .before .before .before .before .before .before .before .before .before .before .before .before .before .before .before .before .before .before .args .contents .now) (c .before .before .before .before .before .before .before .before .before .before .before .before .before .before .before .before .before .before .before .before .before .before .before .before .args .bodies .now) (c .before .before .before .before .before .before .before .before .before .before .before .before .before .before .before .before .before .before .before .before .before .before .before .before .args .p) (c .before .before .before .before .before .before .before .before .before .before .before .before .before .before .before .before .before .before .before .before .before .before .before .before .pre .1) (c .before .before .before .before .before .before .before .before .before .before .before .before .before .before .before .before .before .before .before .expr-at .ensures) (c .before .before .before .before .before .before .before .before .before .before .before .before .before .before .before .jump-false .ensures) (c .before .before .before .before .before .before .before .before .before .before .before .block .ensures) (c .before .before .before .before .before .before .before .jump-end .ensures) .0, rest-falls (c .before .before .before .before .before .before .before .before .before .before .before .before .before .before .before .before .before .before .before .before .before .before .before .before .args .n) (c .before .before .before .before .before .before .before .before .before .before .before .before .before .before .before .before .before .before .before .before .before .before .before .before .args .rest) (c .before .before .before .before .before .before .before .before .before .before .before .before .before .before .before .before .before .before .before .before .before .before .before .before .args .contents .now) (c .before .before .before .before .before .before .before .before .before .before .before .before .before .before .before .before .before .before .before .before .before .before .before .before .args .bodies .now) (c .before .before .before .before .before .before .before .before .before .before .before .before .before .before .before .before .before .before .before .before .before .before .before .before .args .p) (c .before .before .before .before .before .before .before .before .before .before .before .before .before .before .before .before .before .before .before .before .before .before .before .before .pre .1) (c .before .before .before .before .before .before .before .before .before .before .before .before .before .before .before .before .before .before .before .expr-at .ensures) (c .before .before .before .before .before .before .before .before .before .before .before .before .before .before .before .jump-false .ensures) (c .before .before .before .before .before .before .before .before .before .before .before .block .ensures) (c .before .before .before .before .before .before .before .jump-end .ensures) .1), rest-reads (c .before .before .before .before .before .before .before .before .before .before .before .before .before .before .before .before .before .before .before .before .before .before .before .before .args .n) (c .before .before .before .before .before .before .before .before .before .before .before .before .before .before .before .before .before .before .before .before .before .before .before .before .args .rest) (c .before .before .before .before .before .before .before .before .before .before .before .before .before .before .before .before .before .before .before .before .before .before .before .before .args .contents .now) (c .before .before .before .before .before .before .before .before .before .before .before .before .before .before .before .before .before .before .before .before .before .before .before .before .args .bodies .now) (c .before .before .before .before .before .before .before .before .before .before .before .before .before .before .before .before .before .before .before .before .before .before .before .before .args .p) (c .before .before .before .before .before .before .before .before .before .before .before .before .before .before .before .before .before .before .before .before .before .before .before .before .pre .1) (c .before .before .before .before .before .before .before .before .before .before .before .before .before .before .before .before .before .before .before .expr-at .ensures) (c .before .before .before .before .before .before .before .before .before .before .before .before .before .before .before .jump-false .ensures) (c .before .before .before .before .before .before .before .before .before .before .before .block .ensures) (c .before .before .before .before .before .before .before .jump-end .ensures) (c .before .before .before .update-op-at .kept .1 .1 .1 .0))
 
-arm-update-op-at-requires-2 : (t : ℕ) → arm-lts.Need-update-op-at-requires-2 (
-  expr-at-reads.Asked,
-  expr-at-reads.Learnt,
-  jump-false-reads.Asked,
-  jump-false-reads.Learnt,
-  block-below t,
-  block.Post,
-  jump-end-reads.Asked,
-  jump-end-reads.Learnt,
-  update-op-at-reads.Asked,
-  update-op-at-reads.Learnt,
-  elif-below t,
-  elif.Post,
-) (arm-at t) arm.Post
+arm-update-op-at-requires-2 : (t : ℕ) → arm-lts.Need-update-op-at-requires-2 (arm-claims t) (arm-at t) arm.Post
 arm-update-op-at-requires-2 t c κs = (end-ready (c .before .before .before .before .before .before .before .before .before .before .before .before .before .before .before .before .before .before .before .before .before .before .before .before .before .before .before .before .args .n) (c .before .before .before .before .before .before .before .before .before .before .before .before .before .before .before .before .before .before .before .before .before .before .before .before .before .before .before .before .args .rest) (c .before .before .before .before .before .before .before .before .before .before .before .before .before .before .before .before .before .before .before .before .before .before .before .before .before .before .before .before .args .contents .now) (c .before .before .before .before .before .before .before .before .before .before .before .before .before .before .before .before .before .before .before .before .before .before .before .before .before .before .before .before .args .bodies .now) (c .before .before .before .before .before .before .before .before .before .before .before .before .before .before .before .before .before .before .before .before .before .before .before .before .before .before .before .before .args .p) (c .before .before .before .before .before .before .before .before .before .before .before .before .before .before .before .before .before .before .before .before .before .before .before .before .before .before .before .before .pre .1) (c .before .before .before .before .before .before .before .before .before .before .before .before .before .before .before .before .before .before .before .before .before .before .before .expr-at .ensures) (c .before .before .before .before .before .before .before .before .before .before .before .before .before .before .before .before .before .before .before .jump-false .ensures) (c .before .before .before .before .before .before .before .before .before .before .before .before .before .before .before .block .ensures) (c .before .before .before .before .before .before .before .before .before .before .before .jump-end .ensures) .records, rest-ready (c .before .before .before .before .before .before .before .before .before .before .before .before .before .before .before .before .before .before .before .before .before .before .before .before .before .before .before .before .args .n) (c .before .before .before .before .before .before .before .before .before .before .before .before .before .before .before .before .before .before .before .before .before .before .before .before .before .before .before .before .args .rest) (c .before .before .before .before .before .before .before .before .before .before .before .before .before .before .before .before .before .before .before .before .before .before .before .before .before .before .before .before .args .contents .now) (c .before .before .before .before .before .before .before .before .before .before .before .before .before .before .before .before .before .before .before .before .before .before .before .before .before .before .before .before .args .bodies .now) (c .before .before .before .before .before .before .before .before .before .before .before .before .before .before .before .before .before .before .before .before .before .before .before .before .before .before .before .before .args .p) (c .before .before .before .before .before .before .before .before .before .before .before .before .before .before .before .before .before .before .before .before .before .before .before .before .before .before .before .before .pre .1) (c .before .before .before .before .before .before .before .before .before .before .before .before .before .before .before .before .before .before .before .before .before .before .before .expr-at .ensures) (c .before .before .before .before .before .before .before .before .before .before .before .before .before .before .before .before .before .before .before .jump-false .ensures) (c .before .before .before .before .before .before .before .before .before .before .before .before .before .before .before .block .ensures) (c .before .before .before .before .before .before .before .before .before .before .before .jump-end .ensures) (c .before .before .before .before .before .before .before .update-op-at .kept .1 .1 .1 .0) (c .before .before .before .elif .ensures) .room)
 
-arm-same-length : (t : ℕ) → arm-lts.Need-same-length (
-  expr-at-reads.Asked,
-  expr-at-reads.Learnt,
-  jump-false-reads.Asked,
-  jump-false-reads.Learnt,
-  block-below t,
-  block.Post,
-  jump-end-reads.Asked,
-  jump-end-reads.Learnt,
-  update-op-at-reads.Asked,
-  update-op-at-reads.Learnt,
-  elif-below t,
-  elif.Post,
-) (arm-at t) arm.Post
+arm-same-length : (t : ℕ) → arm-lts.Need-same-length (arm-claims t) (arm-at t) arm.Post
 arm-same-length t c = c .before .before .update-op-at2 .kept .1 .1 .1 .0 ∙ c .before .before .before .before .before .before .elif .kept .1 .1 .1 .1 .1 .1 .0 ∙ c .before .before .before .before .before .before .before .before .before .before .update-op-at .kept .1 .1 .1 .0 ∙ c .before .before .before .before .before .before .before .before .before .before .before .before .before .before .jump-end .kept .1 .1 .0 ∙ c .before .before .before .before .before .before .before .before .before .before .before .before .before .before .before .before .before .before .block .kept .1 .1 .1 .1 .0 ∙ c .before .before .before .before .before .before .before .before .before .before .before .before .before .before .before .before .before .before .before .before .before .before .jump-false .kept .1 .1 .0 ∙ c .before .before .before .before .before .before .before .before .before .before .before .before .before .before .before .before .before .before .before .before .before .before .before .before .before .before .expr-at .kept .1 .1 .1 .1 .0
 
-arm-returns : (t : ℕ) → arm-lts.Need-returns (
-  expr-at-reads.Asked,
-  expr-at-reads.Learnt,
-  jump-false-reads.Asked,
-  jump-false-reads.Learnt,
-  block-below t,
-  block.Post,
-  jump-end-reads.Asked,
-  jump-end-reads.Learnt,
-  update-op-at-reads.Asked,
-  update-op-at-reads.Learnt,
-  elif-below t,
-  elif.Post,
-) (arm-at t) arm.Post
+arm-returns : (t : ℕ) → arm-lts.Need-returns (arm-claims t) (arm-at t) arm.Post
 arm-returns t c = arm-goes (c .before .before .before .before .before .before .before .before .before .before .before .before .before .before .before .before .before .before .before .before .before .before .before .before .before .before .before .before .before .before .before .args .n) (c .before .before .before .before .before .before .before .before .before .before .before .before .before .before .before .before .before .before .before .before .before .before .before .before .before .before .before .before .before .before .before .args .rest) (c .before .before .before .before .before .before .before .before .before .before .before .before .before .before .before .before .before .before .before .before .before .before .before .before .before .before .before .before .before .before .before .args .contents .now) (c .before .before .before .before .before .before .before .before .before .before .before .before .before .before .before .before .before .before .before .before .before .before .before .before .before .before .before .before .before .before .before .args .bodies .now) (c .before .before .before .before .before .before .before .before .before .before .before .before .before .before .before .before .before .before .before .before .before .before .before .before .before .before .before .before .before .before .before .args .p) (c .before .before .before .before .before .before .before .before .before .before .before .before .before .before .before .before .before .before .before .before .before .before .before .before .before .before .before .before .before .before .before .pre .1 .ready) (c .before .before .before .before .before .before .before .before .before .before .before .before .before .before .before .before .before .before .before .before .before .before .before .before .before .before .expr-at .ensures) (c .before .before .before .before .before .before .before .before .before .before .before .before .before .before .before .before .before .before .before .before .before .before .jump-false .ensures) (c .before .before .before .before .before .before .before .before .before .before .before .before .before .before .before .before .before .before .block .ensures) (c .before .before .before .before .before .before .before .before .before .before .before .before .before .before .jump-end .ensures) (c .before .before .before .before .before .before .before .before .before .before .update-op-at .ensures) (c .before .before .before .before .before .before .elif .ensures) (c .before .before .update-op-at2 .ensures)
 
-block-shared-slice-read-kind : (t : ℕ) → block-lts.Need-shared-slice-read-kind (
-  pass-reads.Asked,
-  pass-reads.Learnt,
-  blocks-below t,
-  blocks.Post,
-  ifstmt-below t,
-  ifstmt.Post,
-  forstmt-below t,
-  forstmt.Post,
-  ret-reads.Asked,
-  ret-reads.Learnt,
-  expr-stmt-reads.Asked,
-  expr-stmt-reads.Learnt,
-  vardecl-reads.Asked,
-  vardecl-reads.Learnt,
-  fndecl-below t,
-  fndecl.Post,
-) (block-at t) block.Post
+block-shared-slice-read-kind : (t : ℕ) → block-lts.Need-shared-slice-read-kind (block-claims t) (block-at t) block.Post
 block-shared-slice-read-kind t c = omega (arith, stmt-room (c .before .before .before .before .args .contents .now) (c .before .before .before .before .args .bodies .now) (c .before .before .before .before .args .p) (c .before .before .before .before .pre .1))
 
-block-add-blocks : (t : ℕ) → block-lts.Need-add-blocks (
-  pass-reads.Asked,
-  pass-reads.Learnt,
-  blocks-below t,
-  blocks.Post,
-  ifstmt-below t,
-  ifstmt.Post,
-  forstmt-below t,
-  forstmt.Post,
-  ret-reads.Asked,
-  ret-reads.Learnt,
-  expr-stmt-reads.Asked,
-  expr-stmt-reads.Learnt,
-  vardecl-reads.Asked,
-  vardecl-reads.Learnt,
-  fndecl-below t,
-  fndecl.Post,
-) (block-at t) block.Post
+block-add-blocks : (t : ℕ) → block-lts.Need-add-blocks (block-claims t) (block-at t) block.Post
 block-add-blocks t c = omega (arith, stmt-room (c .before .before .before .before .before .args .contents .now) (c .before .before .before .before .before .args .bodies .now) (c .before .before .before .before .before .args .p) (c .before .before .before .before .before .pre .1))
 
-block-shared-slice-read-blocks : (t : ℕ) → block-lts.Need-shared-slice-read-blocks (
-  pass-reads.Asked,
-  pass-reads.Learnt,
-  blocks-below t,
-  blocks.Post,
-  ifstmt-below t,
-  ifstmt.Post,
-  forstmt-below t,
-  forstmt.Post,
-  ret-reads.Asked,
-  ret-reads.Learnt,
-  expr-stmt-reads.Asked,
-  expr-stmt-reads.Learnt,
-  vardecl-reads.Asked,
-  vardecl-reads.Learnt,
-  fndecl-below t,
-  fndecl.Post,
-) (block-at t) block.Post
+block-shared-slice-read-blocks : (t : ℕ) → block-lts.Need-shared-slice-read-blocks (block-claims t) (block-at t) block.Post
 block-shared-slice-read-blocks t c = omega (arith, stmt-room (c .before .before .before .before .before .before .args .contents .now) (c .before .before .before .before .before .before .args .bodies .now) (c .before .before .before .before .before .before .args .p) (c .before .before .before .before .before .before .pre .1))
 
-block-pass-requires : (t : ℕ) → block-lts.Need-pass-requires (
-  pass-reads.Asked,
-  pass-reads.Learnt,
-  blocks-below t,
-  blocks.Post,
-  ifstmt-below t,
-  ifstmt.Post,
-  forstmt-below t,
-  forstmt.Post,
-  ret-reads.Asked,
-  ret-reads.Learnt,
-  expr-stmt-reads.Asked,
-  expr-stmt-reads.Learnt,
-  vardecl-reads.Asked,
-  vardecl-reads.Learnt,
-  fndecl-below t,
-  fndecl.Post,
-) (block-at t) block.Post
+block-pass-requires : (t : ℕ) → block-lts.Need-pass-requires (block-claims t) (block-at t) block.Post
 block-pass-requires t c κs = (omega (arith, stmt-room (c .before .before .before .before .before .before .args .contents .now) (c .before .before .before .before .before .before .args .bodies .now) (c .before .before .before .before .before .before .args .p) (c .before .before .before .before .before .before .pre .1), c .before .before .before .before .before .before .good .0 .0), omega (arith, c .before .before .before .before .before .before .pre .1 .body, c .before .before .before .before .before .before .good .1 .0 .0))
 
-block-blocks-requires : (t : ℕ) → block-lts.Need-blocks-requires (
-  pass-reads.Asked,
-  pass-reads.Learnt,
-  blocks-below t,
-  blocks.Post,
-  ifstmt-below t,
-  ifstmt.Post,
-  forstmt-below t,
-  forstmt.Post,
-  ret-reads.Asked,
-  ret-reads.Learnt,
-  expr-stmt-reads.Asked,
-  expr-stmt-reads.Learnt,
-  vardecl-reads.Asked,
-  vardecl-reads.Learnt,
-  fndecl-below t,
-  fndecl.Post,
-) (block-at t) block.Post
+block-blocks-requires : (t : ℕ) → block-lts.Need-blocks-requires (block-claims t) (block-at t) block.Post
 block-blocks-requires t c κs = (omega (arith, c .before .before .before .before .before .before .before .before .pre .0, stmt-room (c .before .before .before .before .before .before .before .before .args .contents .now) (c .before .before .before .before .before .before .before .before .args .bodies .now) (c .before .before .before .before .before .before .before .before .args .p) (c .before .before .before .before .before .before .before .before .pre .1), ap (λ (d : Done). d .cont) (c .before .pass .ensures)), block-reads (c .before .before .before .before .before .before .before .before .args .contents .now) (c .before .before .before .before .before .before .before .before .args .bodies .now) (c .before .before .before .before .before .before .before .before .args .p) (c .before .before .before .if1 .taken) (c .before .pass .ensures) (c .before .before .before .before .before .before .before .before .pre .1))
 
-block-same-length : (t : ℕ) → block-lts.Need-same-length (
-  pass-reads.Asked,
-  pass-reads.Learnt,
-  blocks-below t,
-  blocks.Post,
-  ifstmt-below t,
-  ifstmt.Post,
-  forstmt-below t,
-  forstmt.Post,
-  ret-reads.Asked,
-  ret-reads.Learnt,
-  expr-stmt-reads.Asked,
-  expr-stmt-reads.Learnt,
-  vardecl-reads.Asked,
-  vardecl-reads.Learnt,
-  fndecl-below t,
-  fndecl.Post,
-) (block-at t) block.Post
+block-same-length : (t : ℕ) → block-lts.Need-same-length (block-claims t) (block-at t) block.Post
 block-same-length t c = c .before .before .blocks2 .kept .1 .1 .1 .1 .1 .0
 
-block-returns : (t : ℕ) → block-lts.Need-returns (
-  pass-reads.Asked,
-  pass-reads.Learnt,
-  blocks-below t,
-  blocks.Post,
-  ifstmt-below t,
-  ifstmt.Post,
-  forstmt-below t,
-  forstmt.Post,
-  ret-reads.Asked,
-  ret-reads.Learnt,
-  expr-stmt-reads.Asked,
-  expr-stmt-reads.Learnt,
-  vardecl-reads.Asked,
-  vardecl-reads.Learnt,
-  fndecl-below t,
-  fndecl.Post,
-) (block-at t) block.Post
+block-returns : (t : ℕ) → block-lts.Need-returns (block-claims t) (block-at t) block.Post
 block-returns t c = block-goes (c .before .before .before .before .before .before .before .before .before .before .before .args .contents .now) (c .before .before .before .before .before .before .before .before .before .before .before .args .bodies .now) (c .before .before .before .before .before .before .before .before .before .before .before .args .p) (c .before .before .before .before .before .before .if1 .taken) (c .before .before .before .before .pass .ensures) (c .before .before .blocks2 .ensures)
 
-block-ifstmt-requires : (t : ℕ) → block-lts.Need-ifstmt-requires (
-  pass-reads.Asked,
-  pass-reads.Learnt,
-  blocks-below t,
-  blocks.Post,
-  ifstmt-below t,
-  ifstmt.Post,
-  forstmt-below t,
-  forstmt.Post,
-  ret-reads.Asked,
-  ret-reads.Learnt,
-  expr-stmt-reads.Asked,
-  expr-stmt-reads.Learnt,
-  vardecl-reads.Asked,
-  vardecl-reads.Learnt,
-  fndecl-below t,
-  fndecl.Post,
-) (block-at t) block.Post
+block-ifstmt-requires : (t : ℕ) → block-lts.Need-ifstmt-requires (block-claims t) (block-at t) block.Post
 block-ifstmt-requires t c κs = (omega (arith, c .before .before .before .before .before .before .before .pre .0), (c .before .before .before .before .before .before .before .pre .1, c .before .if2 .taken))
 
-block-same-length-2 : (t : ℕ) → block-lts.Need-same-length-2 (
-  pass-reads.Asked,
-  pass-reads.Learnt,
-  blocks-below t,
-  blocks.Post,
-  ifstmt-below t,
-  ifstmt.Post,
-  forstmt-below t,
-  forstmt.Post,
-  ret-reads.Asked,
-  ret-reads.Learnt,
-  expr-stmt-reads.Asked,
-  expr-stmt-reads.Learnt,
-  vardecl-reads.Asked,
-  vardecl-reads.Learnt,
-  fndecl-below t,
-  fndecl.Post,
-) (block-at t) block.Post
+block-same-length-2 : (t : ℕ) → block-lts.Need-same-length-2 (block-claims t) (block-at t) block.Post
 block-same-length-2 t c = c .before .before .ifstmt .kept .1 .1 .1 .1 .0
 
-block-returns-2 : (t : ℕ) → block-lts.Need-returns-2 (
-  pass-reads.Asked,
-  pass-reads.Learnt,
-  blocks-below t,
-  blocks.Post,
-  ifstmt-below t,
-  ifstmt.Post,
-  forstmt-below t,
-  forstmt.Post,
-  ret-reads.Asked,
-  ret-reads.Learnt,
-  expr-stmt-reads.Asked,
-  expr-stmt-reads.Learnt,
-  vardecl-reads.Asked,
-  vardecl-reads.Learnt,
-  fndecl-below t,
-  fndecl.Post,
-) (block-at t) block.Post
+block-returns-2 : (t : ℕ) → block-lts.Need-returns-2 (block-claims t) (block-at t) block.Post
 block-returns-2 t c = c .before .before .ifstmt .ensures
 
-block-forstmt-requires : (t : ℕ) → block-lts.Need-forstmt-requires (
-  pass-reads.Asked,
-  pass-reads.Learnt,
-  blocks-below t,
-  blocks.Post,
-  ifstmt-below t,
-  ifstmt.Post,
-  forstmt-below t,
-  forstmt.Post,
-  ret-reads.Asked,
-  ret-reads.Learnt,
-  expr-stmt-reads.Asked,
-  expr-stmt-reads.Learnt,
-  vardecl-reads.Asked,
-  vardecl-reads.Learnt,
-  fndecl-below t,
-  fndecl.Post,
-) (block-at t) block.Post
+block-forstmt-requires : (t : ℕ) → block-lts.Need-forstmt-requires (block-claims t) (block-at t) block.Post
 block-forstmt-requires t c κs = (omega (arith, c .before .before .before .before .before .before .before .before .pre .0), (c .before .before .before .before .before .before .before .before .pre .1, c .before .if3 .taken))
 
-block-same-length-3 : (t : ℕ) → block-lts.Need-same-length-3 (
-  pass-reads.Asked,
-  pass-reads.Learnt,
-  blocks-below t,
-  blocks.Post,
-  ifstmt-below t,
-  ifstmt.Post,
-  forstmt-below t,
-  forstmt.Post,
-  ret-reads.Asked,
-  ret-reads.Learnt,
-  expr-stmt-reads.Asked,
-  expr-stmt-reads.Learnt,
-  vardecl-reads.Asked,
-  vardecl-reads.Learnt,
-  fndecl-below t,
-  fndecl.Post,
-) (block-at t) block.Post
+block-same-length-3 : (t : ℕ) → block-lts.Need-same-length-3 (block-claims t) (block-at t) block.Post
 block-same-length-3 t c = c .before .before .forstmt .kept .1 .1 .1 .1 .0
 
-block-returns-3 : (t : ℕ) → block-lts.Need-returns-3 (
-  pass-reads.Asked,
-  pass-reads.Learnt,
-  blocks-below t,
-  blocks.Post,
-  ifstmt-below t,
-  ifstmt.Post,
-  forstmt-below t,
-  forstmt.Post,
-  ret-reads.Asked,
-  ret-reads.Learnt,
-  expr-stmt-reads.Asked,
-  expr-stmt-reads.Learnt,
-  vardecl-reads.Asked,
-  vardecl-reads.Learnt,
-  fndecl-below t,
-  fndecl.Post,
-) (block-at t) block.Post
+block-returns-3 : (t : ℕ) → block-lts.Need-returns-3 (block-claims t) (block-at t) block.Post
 block-returns-3 t c = c .before .before .forstmt .ensures
 
-block-ret-requires : (t : ℕ) → block-lts.Need-ret-requires (
-  pass-reads.Asked,
-  pass-reads.Learnt,
-  blocks-below t,
-  blocks.Post,
-  ifstmt-below t,
-  ifstmt.Post,
-  forstmt-below t,
-  forstmt.Post,
-  ret-reads.Asked,
-  ret-reads.Learnt,
-  expr-stmt-reads.Asked,
-  expr-stmt-reads.Learnt,
-  vardecl-reads.Asked,
-  vardecl-reads.Learnt,
-  fndecl-below t,
-  fndecl.Post,
-) (block-at t) block.Post
+block-ret-requires : (t : ℕ) → block-lts.Need-ret-requires (block-claims t) (block-at t) block.Post
 block-ret-requires t c κs = (c .before .before .before .before .before .before .before .before .before .pre .1, c .before .if4 .taken)
 
-block-same-length-4 : (t : ℕ) → block-lts.Need-same-length-4 (
-  pass-reads.Asked,
-  pass-reads.Learnt,
-  blocks-below t,
-  blocks.Post,
-  ifstmt-below t,
-  ifstmt.Post,
-  forstmt-below t,
-  forstmt.Post,
-  ret-reads.Asked,
-  ret-reads.Learnt,
-  expr-stmt-reads.Asked,
-  expr-stmt-reads.Learnt,
-  vardecl-reads.Asked,
-  vardecl-reads.Learnt,
-  fndecl-below t,
-  fndecl.Post,
-) (block-at t) block.Post
+block-same-length-4 : (t : ℕ) → block-lts.Need-same-length-4 (block-claims t) (block-at t) block.Post
 block-same-length-4 t c = c .before .before .ret .kept .1 .1 .1 .1 .0
 
-block-returns-4 : (t : ℕ) → block-lts.Need-returns-4 (
-  pass-reads.Asked,
-  pass-reads.Learnt,
-  blocks-below t,
-  blocks.Post,
-  ifstmt-below t,
-  ifstmt.Post,
-  forstmt-below t,
-  forstmt.Post,
-  ret-reads.Asked,
-  ret-reads.Learnt,
-  expr-stmt-reads.Asked,
-  expr-stmt-reads.Learnt,
-  vardecl-reads.Asked,
-  vardecl-reads.Learnt,
-  fndecl-below t,
-  fndecl.Post,
-) (block-at t) block.Post
+block-returns-4 : (t : ℕ) → block-lts.Need-returns-4 (block-claims t) (block-at t) block.Post
 block-returns-4 t c = c .before .before .ret .ensures
 
-block-expr-stmt-requires : (t : ℕ) → block-lts.Need-expr-stmt-requires (
-  pass-reads.Asked,
-  pass-reads.Learnt,
-  blocks-below t,
-  blocks.Post,
-  ifstmt-below t,
-  ifstmt.Post,
-  forstmt-below t,
-  forstmt.Post,
-  ret-reads.Asked,
-  ret-reads.Learnt,
-  expr-stmt-reads.Asked,
-  expr-stmt-reads.Learnt,
-  vardecl-reads.Asked,
-  vardecl-reads.Learnt,
-  fndecl-below t,
-  fndecl.Post,
-) (block-at t) block.Post
+block-expr-stmt-requires : (t : ℕ) → block-lts.Need-expr-stmt-requires (block-claims t) (block-at t) block.Post
 block-expr-stmt-requires t c κs = (c .before .before .before .before .before .before .before .before .before .before .pre .1, c .before .if5 .taken)
 
-block-same-length-5 : (t : ℕ) → block-lts.Need-same-length-5 (
-  pass-reads.Asked,
-  pass-reads.Learnt,
-  blocks-below t,
-  blocks.Post,
-  ifstmt-below t,
-  ifstmt.Post,
-  forstmt-below t,
-  forstmt.Post,
-  ret-reads.Asked,
-  ret-reads.Learnt,
-  expr-stmt-reads.Asked,
-  expr-stmt-reads.Learnt,
-  vardecl-reads.Asked,
-  vardecl-reads.Learnt,
-  fndecl-below t,
-  fndecl.Post,
-) (block-at t) block.Post
+block-same-length-5 : (t : ℕ) → block-lts.Need-same-length-5 (block-claims t) (block-at t) block.Post
 block-same-length-5 t c = c .before .before .expr-stmt .kept .1 .1 .1 .1 .0
 
-block-returns-5 : (t : ℕ) → block-lts.Need-returns-5 (
-  pass-reads.Asked,
-  pass-reads.Learnt,
-  blocks-below t,
-  blocks.Post,
-  ifstmt-below t,
-  ifstmt.Post,
-  forstmt-below t,
-  forstmt.Post,
-  ret-reads.Asked,
-  ret-reads.Learnt,
-  expr-stmt-reads.Asked,
-  expr-stmt-reads.Learnt,
-  vardecl-reads.Asked,
-  vardecl-reads.Learnt,
-  fndecl-below t,
-  fndecl.Post,
-) (block-at t) block.Post
+block-returns-5 : (t : ℕ) → block-lts.Need-returns-5 (block-claims t) (block-at t) block.Post
 block-returns-5 t c = c .before .before .expr-stmt .ensures
 
-block-vardecl-requires : (t : ℕ) → block-lts.Need-vardecl-requires (
-  pass-reads.Asked,
-  pass-reads.Learnt,
-  blocks-below t,
-  blocks.Post,
-  ifstmt-below t,
-  ifstmt.Post,
-  forstmt-below t,
-  forstmt.Post,
-  ret-reads.Asked,
-  ret-reads.Learnt,
-  expr-stmt-reads.Asked,
-  expr-stmt-reads.Learnt,
-  vardecl-reads.Asked,
-  vardecl-reads.Learnt,
-  fndecl-below t,
-  fndecl.Post,
-) (block-at t) block.Post
+block-vardecl-requires : (t : ℕ) → block-lts.Need-vardecl-requires (block-claims t) (block-at t) block.Post
 block-vardecl-requires t c κs = (c .before .before .before .before .before .before .before .before .before .before .before .pre .1, c .before .if6 .taken)
 
-block-same-length-6 : (t : ℕ) → block-lts.Need-same-length-6 (
-  pass-reads.Asked,
-  pass-reads.Learnt,
-  blocks-below t,
-  blocks.Post,
-  ifstmt-below t,
-  ifstmt.Post,
-  forstmt-below t,
-  forstmt.Post,
-  ret-reads.Asked,
-  ret-reads.Learnt,
-  expr-stmt-reads.Asked,
-  expr-stmt-reads.Learnt,
-  vardecl-reads.Asked,
-  vardecl-reads.Learnt,
-  fndecl-below t,
-  fndecl.Post,
-) (block-at t) block.Post
+block-same-length-6 : (t : ℕ) → block-lts.Need-same-length-6 (block-claims t) (block-at t) block.Post
 block-same-length-6 t c = c .before .before .vardecl .kept .1 .1 .1 .1 .0
 
-block-returns-6 : (t : ℕ) → block-lts.Need-returns-6 (
-  pass-reads.Asked,
-  pass-reads.Learnt,
-  blocks-below t,
-  blocks.Post,
-  ifstmt-below t,
-  ifstmt.Post,
-  forstmt-below t,
-  forstmt.Post,
-  ret-reads.Asked,
-  ret-reads.Learnt,
-  expr-stmt-reads.Asked,
-  expr-stmt-reads.Learnt,
-  vardecl-reads.Asked,
-  vardecl-reads.Learnt,
-  fndecl-below t,
-  fndecl.Post,
-) (block-at t) block.Post
+block-returns-6 : (t : ℕ) → block-lts.Need-returns-6 (block-claims t) (block-at t) block.Post
 block-returns-6 t c = c .before .before .vardecl .ensures
 
-block-fndecl-requires : (t : ℕ) → block-lts.Need-fndecl-requires (
-  pass-reads.Asked,
-  pass-reads.Learnt,
-  blocks-below t,
-  blocks.Post,
-  ifstmt-below t,
-  ifstmt.Post,
-  forstmt-below t,
-  forstmt.Post,
-  ret-reads.Asked,
-  ret-reads.Learnt,
-  expr-stmt-reads.Asked,
-  expr-stmt-reads.Learnt,
-  vardecl-reads.Asked,
-  vardecl-reads.Learnt,
-  fndecl-below t,
-  fndecl.Post,
-) (block-at t) block.Post
+block-fndecl-requires : (t : ℕ) → block-lts.Need-fndecl-requires (block-claims t) (block-at t) block.Post
 block-fndecl-requires t c κs = (omega (arith, c .before .before .before .before .before .before .before .before .before .before .before .pre .0), (c .before .before .before .before .before .before .before .before .before .before .before .pre .1, others (kind-here (c .before .before .before .before .before .before .before .before .before .before .before .pre .1 .tree) (c .before .before .before .before .before .before .before .before .before .before .before .args .contents .now) (c .before .before .before .before .before .before .before .before .before .before .before .args .bodies .now) (c .before .before .before .before .before .before .before .before .before .before .before .args .p .cont) (c .before .before .before .before .before .before .before .before .before .before .before .args .p .body) (c .before .before .before .before .before .before .before .before .before .before .before .pre .1 .spelt .spells) refl) (c .before .before .before .before .before .before .if1 .left) (c .before .before .before .before .before .if2 .left) (c .before .before .before .before .if3 .left) (c .before .before .before .if4 .left) (c .before .before .if5 .left) (c .before .if6 .left)))
 
-block-same-length-7 : (t : ℕ) → block-lts.Need-same-length-7 (
-  pass-reads.Asked,
-  pass-reads.Learnt,
-  blocks-below t,
-  blocks.Post,
-  ifstmt-below t,
-  ifstmt.Post,
-  forstmt-below t,
-  forstmt.Post,
-  ret-reads.Asked,
-  ret-reads.Learnt,
-  expr-stmt-reads.Asked,
-  expr-stmt-reads.Learnt,
-  vardecl-reads.Asked,
-  vardecl-reads.Learnt,
-  fndecl-below t,
-  fndecl.Post,
-) (block-at t) block.Post
+block-same-length-7 : (t : ℕ) → block-lts.Need-same-length-7 (block-claims t) (block-at t) block.Post
 block-same-length-7 t c = c .before .before .fndecl .kept .1 .1 .1 .0
 
-block-returns-7 : (t : ℕ) → block-lts.Need-returns-7 (
-  pass-reads.Asked,
-  pass-reads.Learnt,
-  blocks-below t,
-  blocks.Post,
-  ifstmt-below t,
-  ifstmt.Post,
-  forstmt-below t,
-  forstmt.Post,
-  ret-reads.Asked,
-  ret-reads.Learnt,
-  expr-stmt-reads.Asked,
-  expr-stmt-reads.Learnt,
-  vardecl-reads.Asked,
-  vardecl-reads.Learnt,
-  fndecl-below t,
-  fndecl.Post,
-) (block-at t) block.Post
+block-returns-7 : (t : ℕ) → block-lts.Need-returns-7 (block-claims t) (block-at t) block.Post
 block-returns-7 t c = c .before .before .fndecl .ensures (c .before .before .before .before .before .before .before .before .before .before .before .before .before .before .args .keep)
 
-blocks-nop-requires : (t : ℕ) → blocks-lts.Need-nop-requires (
-  nop-reads.Asked,
-  nop-reads.Learnt,
-  stmts-below t,
-  stmts.Post,
-) (blocks-at t) blocks.Post
+blocks-nop-requires : (t : ℕ) → blocks-lts.Need-nop-requires (blocks-claims t) (blocks-at t) blocks.Post
 blocks-nop-requires t c κs = c .before .before .before .before .before .pre .1 .ready
 
-blocks-same-length : (t : ℕ) → blocks-lts.Need-same-length (
-  nop-reads.Asked,
-  nop-reads.Learnt,
-  stmts-below t,
-  stmts.Post,
-) (blocks-at t) blocks.Post
+blocks-same-length : (t : ℕ) → blocks-lts.Need-same-length (blocks-claims t) (blocks-at t) blocks.Post
 blocks-same-length t c = c .before .before .nop .kept .1 .1 .0
 
-blocks-returns : (t : ℕ) → blocks-lts.Need-returns (
-  nop-reads.Asked,
-  nop-reads.Learnt,
-  stmts-below t,
-  stmts.Post,
-) (blocks-at t) blocks.Post
+blocks-returns : (t : ℕ) → blocks-lts.Need-returns (blocks-claims t) (blocks-at t) blocks.Post
 blocks-returns t c = body-none (c .before .before .before .before .before .before .before .before .args .n) (c .before .before .before .before .if1 .taken) (c .before .before .nop .ensures)
 
-blocks-stmts-requires : (t : ℕ) → blocks-lts.Need-stmts-requires (
-  nop-reads.Asked,
-  nop-reads.Learnt,
-  stmts-below t,
-  stmts.Post,
-) (blocks-at t) blocks.Post
+blocks-stmts-requires : (t : ℕ) → blocks-lts.Need-stmts-requires (blocks-claims t) (blocks-at t) blocks.Post
 blocks-stmts-requires t c κs = (omega (arith, c .before .before .before .before .before .pre .0), body-list (c .before .before .before .before .before .args .n) (c .before .before .before .before .before .pre .1))
 
-blocks-same-length-2 : (t : ℕ) → blocks-lts.Need-same-length-2 (
-  nop-reads.Asked,
-  nop-reads.Learnt,
-  stmts-below t,
-  stmts.Post,
-) (blocks-at t) blocks.Post
+blocks-same-length-2 : (t : ℕ) → blocks-lts.Need-same-length-2 (blocks-claims t) (blocks-at t) blocks.Post
 blocks-same-length-2 t c = c .before .before .stmts .kept .1 .1 .1 .1 .1 .0
 
-blocks-returns-2 : (t : ℕ) → blocks-lts.Need-returns-2 (
-  nop-reads.Asked,
-  nop-reads.Learnt,
-  stmts-below t,
-  stmts.Post,
-) (blocks-at t) blocks.Post
+blocks-returns-2 : (t : ℕ) → blocks-lts.Need-returns-2 (blocks-claims t) (blocks-at t) blocks.Post
 blocks-returns-2 t c = body-some (c .before .before .before .before .before .before .before .before .args .n) (c .before .before .before .before .if1 .left) (c .before .before .stmts .ensures)
 
-elif-stmts-requires : (t : ℕ) → elif-lts.Need-stmts-requires (
-  stmts-below t,
-  stmts.Post,
-  if-end-reads.Asked,
-  if-end-reads.Learnt,
-  pass-reads.Asked,
-  pass-reads.Learnt,
-  arm-below t,
-  arm.Post,
-) (elif-at t) elif.Post
+elif-stmts-requires : (t : ℕ) → elif-lts.Need-stmts-requires (elif-claims t) (elif-at t) elif.Post
 elif-stmts-requires t c κs = (omega (arith, c .before .before .before .before .before .pre .0), else-reads (c .before .before .before .before .before .args .contents .now) (c .before .before .before .before .before .args .bodies .now) (c .before .before .before .before .before .args .p) (c .before .before .before .before .before .args .n) (c .before .before .before .before .before .args .rest) (c .before .if1 .taken) (c .before .before .before .before .before .pre .1))
 
-elif-if-end-requires : (t : ℕ) → elif-lts.Need-if-end-requires (
-  stmts-below t,
-  stmts.Post,
-  if-end-reads.Asked,
-  if-end-reads.Learnt,
-  pass-reads.Asked,
-  pass-reads.Learnt,
-  arm-below t,
-  arm.Post,
-) (elif-at t) elif.Post
+elif-if-end-requires : (t : ℕ) → elif-lts.Need-if-end-requires (elif-claims t) (elif-at t) elif.Post
 elif-if-end-requires t c κs = else-asks (c .before .before .before .before .before .before .before .before .before .args .contents .now) (c .before .before .before .before .before .before .before .before .before .args .bodies .now) (c .before .before .before .before .before .before .before .before .before .args .p) (c .before .before .before .before .before .before .before .before .before .args .n) (c .before .before .before .before .before .before .before .before .before .args .rest) (c .before .before .before .before .before .if1 .taken) (c .before .before .before .stmts .ensures) (c .before .before .before .before .before .before .before .before .before .pre .1)
 
-elif-same-length : (t : ℕ) → elif-lts.Need-same-length (
-  stmts-below t,
-  stmts.Post,
-  if-end-reads.Asked,
-  if-end-reads.Learnt,
-  pass-reads.Asked,
-  pass-reads.Learnt,
-  arm-below t,
-  arm.Post,
-) (elif-at t) elif.Post
+elif-same-length : (t : ℕ) → elif-lts.Need-same-length (elif-claims t) (elif-at t) elif.Post
 elif-same-length t c = c .before .before .if-end .kept .1 .1 .1 .0 ∙ c .before .before .before .before .before .before .stmts .kept .1 .1 .1 .1 .1 .0
 
-elif-returns : (t : ℕ) → elif-lts.Need-returns (
-  stmts-below t,
-  stmts.Post,
-  if-end-reads.Asked,
-  if-end-reads.Learnt,
-  pass-reads.Asked,
-  pass-reads.Learnt,
-  arm-below t,
-  arm.Post,
-) (elif-at t) elif.Post
+elif-returns : (t : ℕ) → elif-lts.Need-returns (elif-claims t) (elif-at t) elif.Post
 elif-returns t c = else-goes (c .before .before .before .before .before .before .before .before .before .before .before .before .args .contents .now) (c .before .before .before .before .before .before .before .before .before .before .before .before .args .bodies .now) (c .before .before .before .before .before .before .before .before .before .before .before .before .args .p) (c .before .before .before .before .before .before .before .before .before .before .before .before .args .n) (c .before .before .before .before .before .before .before .before .before .before .before .before .args .rest) (c .before .before .before .before .before .before .before .before .if1 .taken) (c .before .before .before .before .before .before .stmts .ensures) (c .before .before .if-end .ensures)
 
-elif-sub-arm : (t : ℕ) → elif-lts.Need-sub-arm (
-  stmts-below t,
-  stmts.Post,
-  if-end-reads.Asked,
-  if-end-reads.Learnt,
-  pass-reads.Asked,
-  pass-reads.Learnt,
-  arm-below t,
-  arm.Post,
-) (elif-at t) elif.Post
+elif-sub-arm : (t : ℕ) → elif-lts.Need-sub-arm (elif-claims t) (elif-at t) elif.Post
 elif-sub-arm t c = omega (arith, one-fewer (c .before .before .before .before .args .n) (c .if1 .left))
 
-elif-pass-requires : (t : ℕ) → elif-lts.Need-pass-requires (
-  stmts-below t,
-  stmts.Post,
-  if-end-reads.Asked,
-  if-end-reads.Learnt,
-  pass-reads.Asked,
-  pass-reads.Learnt,
-  arm-below t,
-  arm.Post,
-) (elif-at t) elif.Post
+elif-pass-requires : (t : ℕ) → elif-lts.Need-pass-requires (elif-claims t) (elif-at t) elif.Post
 elif-pass-requires t c κs = (omega (arith, elif-room (c .before .before .before .before .args .contents .now) (c .before .before .before .before .args .bodies .now) (c .before .before .before .before .args .p) (c .before .before .before .before .args .n) (c .before .before .before .before .args .rest) (c .if1 .left) (c .before .before .before .before .pre .1), c .before .before .before .before .good .1 .1 .0 .0), omega (arith, c .before .before .before .before .pre .1 .body, c .before .before .before .before .good .1 .1 .1 .0 .0))
 
-elif-arm-requires : (t : ℕ) → elif-lts.Need-arm-requires (
-  stmts-below t,
-  stmts.Post,
-  if-end-reads.Asked,
-  if-end-reads.Learnt,
-  pass-reads.Asked,
-  pass-reads.Learnt,
-  arm-below t,
-  arm.Post,
-) (elif-at t) elif.Post
+elif-arm-requires : (t : ℕ) → elif-lts.Need-arm-requires (elif-claims t) (elif-at t) elif.Post
 elif-arm-requires t c κs = (omega (arith, c .before .before .before .before .before .before .pre .0, elif-falls (c .before .before .before .before .before .before .args .contents .now) (c .before .before .before .before .before .before .args .bodies .now) (c .before .before .before .before .before .before .args .p) (c .before .before .before .before .before .before .args .n) (c .before .before .before .before .before .before .args .rest) (c .before .before .if1 .left) (c .before .pass .ensures) (c .before .before .before .before .before .before .args .n - 1) (one-fewer (c .before .before .before .before .before .before .args .n) (c .before .before .if1 .left)) (c .before .before .before .before .before .before .pre .1) .0, elif-falls (c .before .before .before .before .before .before .args .contents .now) (c .before .before .before .before .before .before .args .bodies .now) (c .before .before .before .before .before .before .args .p) (c .before .before .before .before .before .before .args .n) (c .before .before .before .before .before .before .args .rest) (c .before .before .if1 .left) (c .before .pass .ensures) (c .before .before .before .before .before .before .args .n - 1) (one-fewer (c .before .before .before .before .before .before .args .n) (c .before .before .if1 .left)) (c .before .before .before .before .before .before .pre .1) .1), elif-reads (c .before .before .before .before .before .before .args .contents .now) (c .before .before .before .before .before .before .args .bodies .now) (c .before .before .before .before .before .before .args .p) (c .before .before .before .before .before .before .args .n) (c .before .before .before .before .before .before .args .rest) (c .before .before .if1 .left) (c .before .pass .ensures) (c .before .before .before .before .before .before .args .n - 1) (one-fewer (c .before .before .before .before .before .before .args .n) (c .before .before .if1 .left)) (c .before .before .before .before .before .before .pre .1))
 
-elif-same-length-2 : (t : ℕ) → elif-lts.Need-same-length-2 (
-  stmts-below t,
-  stmts.Post,
-  if-end-reads.Asked,
-  if-end-reads.Learnt,
-  pass-reads.Asked,
-  pass-reads.Learnt,
-  arm-below t,
-  arm.Post,
-) (elif-at t) elif.Post
+elif-same-length-2 : (t : ℕ) → elif-lts.Need-same-length-2 (elif-claims t) (elif-at t) elif.Post
 elif-same-length-2 t c = c .before .before .arm .kept .1 .1 .1 .1 .1 .1 .0
 
-elif-returns-2 : (t : ℕ) → elif-lts.Need-returns-2 (
-  stmts-below t,
-  stmts.Post,
-  if-end-reads.Asked,
-  if-end-reads.Learnt,
-  pass-reads.Asked,
-  pass-reads.Learnt,
-  arm-below t,
-  arm.Post,
-) (elif-at t) elif.Post
+elif-returns-2 : (t : ℕ) → elif-lts.Need-returns-2 (elif-claims t) (elif-at t) elif.Post
 elif-returns-2 t c = elif-goes (c .before .before .before .before .before .before .before .before .before .args .contents .now) (c .before .before .before .before .before .before .before .before .before .args .bodies .now) (c .before .before .before .before .before .before .before .before .before .args .p) (c .before .before .before .before .before .before .before .before .before .args .n) (c .before .before .before .before .before .before .before .before .before .args .rest) (c .before .before .before .before .before .if1 .left) (c .before .before .before .before .pass .ensures) (c .before .before .before .before .before .before .before .before .before .args .n - 1) (one-fewer (c .before .before .before .before .before .before .before .before .before .args .n) (c .before .before .before .before .before .if1 .left)) (c .before .before .arm .ensures)
 
-fndecl-fn-head-requires : (t : ℕ) → fndecl-lts.Need-fn-head-requires (
-  fn-head-reads.Asked,
-  fn-head-reads.Learnt,
-  block-below t,
-  block.Post,
-  newlbl-reads.Asked,
-  newlbl-reads.Learnt,
-) (fndecl-at t) fndecl.Post
+fndecl-fn-head-requires : (t : ℕ) → fndecl-lts.Need-fn-head-requires (fndecl-claims t) (fndecl-at t) fndecl.Post
 fndecl-fn-head-requires t c κs = (c .before .before .before .before .pre .1 .0, c .before .before .before .before .pre .1 .1)
 
-fndecl-block-requires : (t : ℕ) → fndecl-lts.Need-block-requires (
-  fn-head-reads.Asked,
-  fn-head-reads.Learnt,
-  block-below t,
-  block.Post,
-  newlbl-reads.Asked,
-  newlbl-reads.Learnt,
-) (fndecl-at t) fndecl.Post
+fndecl-block-requires : (t : ℕ) → fndecl-lts.Need-block-requires (fndecl-claims t) (fndecl-at t) fndecl.Post
 fndecl-block-requires t c κs = (omega (arith, c .before .before .before .before .before .before .before .before .pre .0, fn-falls (is-a-fn (c .before .before .before .before .before .before .before .before .pre .1 .0) (c .before .before .before .before .before .before .before .before .pre .1 .1)) (c .before .before .before .before .before .before .before .before .pre .1 .0 .ready) (c .before .before .before .fn-head .ensures) .0, fn-falls (is-a-fn (c .before .before .before .before .before .before .before .before .pre .1 .0) (c .before .before .before .before .before .before .before .before .pre .1 .1)) (c .before .before .before .before .before .before .before .before .pre .1 .0 .ready) (c .before .before .before .fn-head .ensures) .1), fn-block-reads (is-a-fn (c .before .before .before .before .before .before .before .before .pre .1 .0) (c .before .before .before .before .before .before .before .before .pre .1 .1)) (c .before .before .before .before .before .before .before .before .pre .1 .0 .ready) (c .before .before .before .fn-head .ensures))
 
-fndecl-newlbl-requires : (t : ℕ) → fndecl-lts.Need-newlbl-requires (
-  fn-head-reads.Asked,
-  fn-head-reads.Learnt,
-  block-below t,
-  block.Post,
-  newlbl-reads.Asked,
-  newlbl-reads.Learnt,
-) (fndecl-at t) fndecl.Post
+fndecl-newlbl-requires : (t : ℕ) → fndecl-lts.Need-newlbl-requires (fndecl-claims t) (fndecl-at t) fndecl.Post
 fndecl-newlbl-requires t c κs = fn-label (is-a-fn (c .before .before .before .before .before .before .before .before .before .before .before .pre .1 .0) (c .before .before .before .before .before .before .before .before .before .before .before .pre .1 .1)) (c .before .before .before .before .before .before .before .before .before .before .before .pre .1 .0 .ready) (c .before .before .before .before .before .before .fn-head .ensures) (c .before .before .block .ensures)
 
-fndecl-same-length : (t : ℕ) → fndecl-lts.Need-same-length (
-  fn-head-reads.Asked,
-  fn-head-reads.Learnt,
-  block-below t,
-  block.Post,
-  newlbl-reads.Asked,
-  newlbl-reads.Learnt,
-) (fndecl-at t) fndecl.Post
+fndecl-same-length : (t : ℕ) → fndecl-lts.Need-same-length (fndecl-claims t) (fndecl-at t) fndecl.Post
 fndecl-same-length t c = c .before .before .before .block .kept .1 .1 .1 .1 .0 ∙ c .before .before .before .before .before .before .before .fn-head .kept .1 .1 .1 .0
 
-fndecl-returns : (t : ℕ) → fndecl-lts.Need-returns (
-  fn-head-reads.Asked,
-  fn-head-reads.Learnt,
-  block-below t,
-  block.Post,
-  newlbl-reads.Asked,
-  newlbl-reads.Learnt,
-) (fndecl-at t) fndecl.Post
+fndecl-returns : (t : ℕ) → fndecl-lts.Need-returns (fndecl-claims t) (fndecl-at t) fndecl.Post
 fndecl-returns t c = λ k. fn-goes (c .before .before .before .before .before .before .before .before .before .before .before .before .args .contents .now) (c .before .before .before .before .before .before .before .before .before .before .before .before .args .bodies .now) (c .before .before .before .before .before .before .before .before .before .before .before .before .args .p) (c .before .before .before .before .before .before .before .before .before .before .before .before .pre .1 .1) (c .before .before .before .before .before .before .before .fn-head .ensures) (c .before .before .before .block .ensures) (c .newlbl .ensures)
 
-forstmt-shared-slice-read-i : (t : ℕ) → forstmt-lts.Need-shared-slice-read-i (
-  source-name-reads.Asked,
-  source-name-reads.Learnt,
-  nextreg-reads.Asked,
-  nextreg-reads.Learnt,
-  start-reads.Asked,
-  start-reads.Learnt,
-  source-reads.Asked,
-  source-reads.Learnt,
-  for-head-reads.Asked,
-  for-head-reads.Learnt,
-  block-below t,
-  block.Post,
-  for-tail-reads.Asked,
-  for-tail-reads.Learnt,
-) (forstmt-at t) forstmt.Post
+forstmt-shared-slice-read-i : (t : ℕ) → forstmt-lts.Need-shared-slice-read-i (forstmt-claims t) (forstmt-at t) forstmt.Post
 forstmt-shared-slice-read-i t c = omega (arith, for-room (is-a-for (c .before .before .before .before .pre .1 .0) (c .before .before .before .before .pre .1 .1)) .1, c .before .before .before .before .good .0 .0, c .before .before .before .before .good .1 .0 .0)
 
-forstmt-add-v : (t : ℕ) → forstmt-lts.Need-add-v (
-  source-name-reads.Asked,
-  source-name-reads.Learnt,
-  nextreg-reads.Asked,
-  nextreg-reads.Learnt,
-  start-reads.Asked,
-  start-reads.Learnt,
-  source-reads.Asked,
-  source-reads.Learnt,
-  for-head-reads.Asked,
-  for-head-reads.Learnt,
-  block-below t,
-  block.Post,
-  for-tail-reads.Asked,
-  for-tail-reads.Learnt,
-) (forstmt-at t) forstmt.Post
+forstmt-add-v : (t : ℕ) → forstmt-lts.Need-add-v (forstmt-claims t) (forstmt-at t) forstmt.Post
 forstmt-add-v t c = omega (arith, for-room (is-a-for (c .before .before .before .before .pre .1 .0) (c .before .before .before .before .pre .1 .1)) .1, c .before .before .before .before .good .0 .0, c .before .before .before .before .good .1 .0 .0)
 
-forstmt-shared-slice-read-v : (t : ℕ) → forstmt-lts.Need-shared-slice-read-v (
-  source-name-reads.Asked,
-  source-name-reads.Learnt,
-  nextreg-reads.Asked,
-  nextreg-reads.Learnt,
-  start-reads.Asked,
-  start-reads.Learnt,
-  source-reads.Asked,
-  source-reads.Learnt,
-  for-head-reads.Asked,
-  for-head-reads.Learnt,
-  block-below t,
-  block.Post,
-  for-tail-reads.Asked,
-  for-tail-reads.Learnt,
-) (forstmt-at t) forstmt.Post
+forstmt-shared-slice-read-v : (t : ℕ) → forstmt-lts.Need-shared-slice-read-v (forstmt-claims t) (forstmt-at t) forstmt.Post
 forstmt-shared-slice-read-v t c = omega (arith, for-room (is-a-for (c .before .before .before .before .before .pre .1 .0) (c .before .before .before .before .before .pre .1 .1)) .1, c .before .before .before .before .before .good .0 .0, c .before .before .before .before .before .good .1 .0 .0)
 
-forstmt-add-source-name : (t : ℕ) → forstmt-lts.Need-add-source-name (
-  source-name-reads.Asked,
-  source-name-reads.Learnt,
-  nextreg-reads.Asked,
-  nextreg-reads.Learnt,
-  start-reads.Asked,
-  start-reads.Learnt,
-  source-reads.Asked,
-  source-reads.Learnt,
-  for-head-reads.Asked,
-  for-head-reads.Learnt,
-  block-below t,
-  block.Post,
-  for-tail-reads.Asked,
-  for-tail-reads.Learnt,
-) (forstmt-at t) forstmt.Post
+forstmt-add-source-name : (t : ℕ) → forstmt-lts.Need-add-source-name (forstmt-claims t) (forstmt-at t) forstmt.Post
 forstmt-add-source-name t c = omega (arith, for-room (is-a-for (c .before .before .before .before .before .pre .1 .0) (c .before .before .before .before .before .pre .1 .1)) .0, c .before .before .before .before .before .good .0 .0, c .before .before .before .before .before .good .1 .0 .0)
 
-forstmt-shared-slice-read-source-name : (t : ℕ) → forstmt-lts.Need-shared-slice-read-source-name (
-  source-name-reads.Asked,
-  source-name-reads.Learnt,
-  nextreg-reads.Asked,
-  nextreg-reads.Learnt,
-  start-reads.Asked,
-  start-reads.Learnt,
-  source-reads.Asked,
-  source-reads.Learnt,
-  for-head-reads.Asked,
-  for-head-reads.Learnt,
-  block-below t,
-  block.Post,
-  for-tail-reads.Asked,
-  for-tail-reads.Learnt,
-) (forstmt-at t) forstmt.Post
+forstmt-shared-slice-read-source-name : (t : ℕ) → forstmt-lts.Need-shared-slice-read-source-name (forstmt-claims t) (forstmt-at t) forstmt.Post
 forstmt-shared-slice-read-source-name t c = omega (arith, for-room (is-a-for (c .before .before .before .before .before .before .pre .1 .0) (c .before .before .before .before .before .before .pre .1 .1)) .0, c .before .before .before .before .before .before .good .0 .0, c .before .before .before .before .before .before .good .1 .0 .0)
 
-forstmt-add-source-name-2 : (t : ℕ) → forstmt-lts.Need-add-source-name-2 (
-  source-name-reads.Asked,
-  source-name-reads.Learnt,
-  nextreg-reads.Asked,
-  nextreg-reads.Learnt,
-  start-reads.Asked,
-  start-reads.Learnt,
-  source-reads.Asked,
-  source-reads.Learnt,
-  for-head-reads.Asked,
-  for-head-reads.Learnt,
-  block-below t,
-  block.Post,
-  for-tail-reads.Asked,
-  for-tail-reads.Learnt,
-) (forstmt-at t) forstmt.Post
+forstmt-add-source-name-2 : (t : ℕ) → forstmt-lts.Need-add-source-name-2 (forstmt-claims t) (forstmt-at t) forstmt.Post
 forstmt-add-source-name-2 t c = omega (arith, for-room (is-a-for (c .before .before .before .before .before .before .pre .1 .0) (c .before .before .before .before .before .before .pre .1 .1)) .1, c .before .before .before .before .before .before .good .0 .0, c .before .before .before .before .before .before .good .1 .0 .0)
 
 forstmt-shared-slice-read-source-name-2 :
-    (t : ℕ) → forstmt-lts.Need-shared-slice-read-source-name-2 (
-      source-name-reads.Asked,
-      source-name-reads.Learnt,
-      nextreg-reads.Asked,
-      nextreg-reads.Learnt,
-      start-reads.Asked,
-      start-reads.Learnt,
-      source-reads.Asked,
-      source-reads.Learnt,
-      for-head-reads.Asked,
-      for-head-reads.Learnt,
-      block-below t,
-      block.Post,
-      for-tail-reads.Asked,
-      for-tail-reads.Learnt,
-    ) (forstmt-at t) forstmt.Post
+    (t : ℕ) → forstmt-lts.Need-shared-slice-read-source-name-2 (forstmt-claims t) (forstmt-at t) forstmt.Post
 forstmt-shared-slice-read-source-name-2 t c = omega (arith, for-room (is-a-for (c .before .before .before .before .before .before .before .pre .1 .0) (c .before .before .before .before .before .before .before .pre .1 .1)) .1, c .before .before .before .before .before .before .before .good .0 .0, c .before .before .before .before .before .before .before .good .1 .0 .0)
 
-forstmt-source-name-requires : (t : ℕ) → forstmt-lts.Need-source-name-requires (
-  source-name-reads.Asked,
-  source-name-reads.Learnt,
-  nextreg-reads.Asked,
-  nextreg-reads.Learnt,
-  start-reads.Asked,
-  start-reads.Learnt,
-  source-reads.Asked,
-  source-reads.Learnt,
-  for-head-reads.Asked,
-  for-head-reads.Learnt,
-  block-below t,
-  block.Post,
-  for-tail-reads.Asked,
-  for-tail-reads.Learnt,
-) (forstmt-at t) forstmt.Post
+forstmt-source-name-requires : (t : ℕ) → forstmt-lts.Need-source-name-requires (forstmt-claims t) (forstmt-at t) forstmt.Post
 forstmt-source-name-requires t c κs = search needs
 
-forstmt-nextreg-requires : (t : ℕ) → forstmt-lts.Need-nextreg-requires (
-  source-name-reads.Asked,
-  source-name-reads.Learnt,
-  nextreg-reads.Asked,
-  nextreg-reads.Learnt,
-  start-reads.Asked,
-  start-reads.Learnt,
-  source-reads.Asked,
-  source-reads.Learnt,
-  for-head-reads.Asked,
-  for-head-reads.Learnt,
-  block-below t,
-  block.Post,
-  for-tail-reads.Asked,
-  for-tail-reads.Learnt,
-) (forstmt-at t) forstmt.Post
+forstmt-nextreg-requires : (t : ℕ) → forstmt-lts.Need-nextreg-requires (forstmt-claims t) (forstmt-at t) forstmt.Post
 forstmt-nextreg-requires t c κs = c .before .before .before .before .before .before .before .before .pre .1 .0 .ready .registers
 
-forstmt-add-start : (t : ℕ) → forstmt-lts.Need-add-start (
-  source-name-reads.Asked,
-  source-name-reads.Learnt,
-  nextreg-reads.Asked,
-  nextreg-reads.Learnt,
-  start-reads.Asked,
-  start-reads.Learnt,
-  source-reads.Asked,
-  source-reads.Learnt,
-  for-head-reads.Asked,
-  for-head-reads.Learnt,
-  block-below t,
-  block.Post,
-  for-tail-reads.Asked,
-  for-tail-reads.Learnt,
-) (forstmt-at t) forstmt.Post
+forstmt-add-start : (t : ℕ) → forstmt-lts.Need-add-start (forstmt-claims t) (forstmt-at t) forstmt.Post
 forstmt-add-start t c = omega (arith, for-room (is-a-for (c .before .before .before .before .before .before .before .before .before .pre .1 .0) (c .before .before .before .before .before .before .before .before .before .pre .1 .1)) .0, c .before .before .before .before .before .before .before .before .before .good .0 .0, c .before .before .before .before .before .before .before .before .before .good .1 .0 .0)
 
-forstmt-add-start-2 : (t : ℕ) → forstmt-lts.Need-add-start-2 (
-  source-name-reads.Asked,
-  source-name-reads.Learnt,
-  nextreg-reads.Asked,
-  nextreg-reads.Learnt,
-  start-reads.Asked,
-  start-reads.Learnt,
-  source-reads.Asked,
-  source-reads.Learnt,
-  for-head-reads.Asked,
-  for-head-reads.Learnt,
-  block-below t,
-  block.Post,
-  for-tail-reads.Asked,
-  for-tail-reads.Learnt,
-) (forstmt-at t) forstmt.Post
+forstmt-add-start-2 : (t : ℕ) → forstmt-lts.Need-add-start-2 (forstmt-claims t) (forstmt-at t) forstmt.Post
 forstmt-add-start-2 t c = omega (arith, for-room (is-a-for (c .before .before .before .before .before .before .before .before .before .pre .1 .0) (c .before .before .before .before .before .before .before .before .before .pre .1 .1)) .1, c .before .before .before .before .before .before .before .before .before .good .0 .0, c .before .before .before .before .before .before .before .before .before .good .1 .0 .0)
 
-forstmt-start-requires : (t : ℕ) → forstmt-lts.Need-start-requires (
-  source-name-reads.Asked,
-  source-name-reads.Learnt,
-  nextreg-reads.Asked,
-  nextreg-reads.Learnt,
-  start-reads.Asked,
-  start-reads.Learnt,
-  source-reads.Asked,
-  source-reads.Learnt,
-  for-head-reads.Asked,
-  for-head-reads.Learnt,
-  block-below t,
-  block.Post,
-  for-tail-reads.Asked,
-  for-tail-reads.Learnt,
-) (forstmt-at t) forstmt.Post
+forstmt-start-requires : (t : ℕ) → forstmt-lts.Need-start-requires (forstmt-claims t) (forstmt-at t) forstmt.Post
 forstmt-start-requires t c κs = search needs
 
-forstmt-source-requires : (t : ℕ) → forstmt-lts.Need-source-requires (
-  source-name-reads.Asked,
-  source-name-reads.Learnt,
-  nextreg-reads.Asked,
-  nextreg-reads.Learnt,
-  start-reads.Asked,
-  start-reads.Learnt,
-  source-reads.Asked,
-  source-reads.Learnt,
-  for-head-reads.Asked,
-  for-head-reads.Learnt,
-  block-below t,
-  block.Post,
-  for-tail-reads.Asked,
-  for-tail-reads.Learnt,
-) (forstmt-at t) forstmt.Post
+forstmt-source-requires : (t : ℕ) → forstmt-lts.Need-source-requires (forstmt-claims t) (forstmt-at t) forstmt.Post
 forstmt-source-requires t c κs = for-source-reads (is-a-for (c .before .before .before .before .before .before .before .before .before .before .before .pre .1 .0) (c .before .before .before .before .before .before .before .before .before .before .before .pre .1 .1)) (c .before .before .before .before .before .before .before .before .before .before .before .pre .1 .0 .ready) (c .before .before .nextreg .ensures) (c .before .start .ensures)
 
-forstmt-for-head-requires : (t : ℕ) → forstmt-lts.Need-for-head-requires (
-  source-name-reads.Asked,
-  source-name-reads.Learnt,
-  nextreg-reads.Asked,
-  nextreg-reads.Learnt,
-  start-reads.Asked,
-  start-reads.Learnt,
-  source-reads.Asked,
-  source-reads.Learnt,
-  for-head-reads.Asked,
-  for-head-reads.Learnt,
-  block-below t,
-  block.Post,
-  for-tail-reads.Asked,
-  for-tail-reads.Learnt,
-) (forstmt-at t) forstmt.Post
+forstmt-for-head-requires : (t : ℕ) → forstmt-lts.Need-for-head-requires (forstmt-claims t) (forstmt-at t) forstmt.Post
 forstmt-for-head-requires t c κs = head-asks (is-a-for (c .before .before .before .before .before .before .before .before .before .before .before .before .before .before .before .pre .1 .0) (c .before .before .before .before .before .before .before .before .before .before .before .before .before .before .before .pre .1 .1)) (c .before .before .before .before .before .before .before .before .before .before .before .before .before .before .before .pre .1 .0 .ready) (c .before .before .before .before .before .before .nextreg .ensures) (c .before .before .before .before .before .start .ensures) (c .before .before .before .source .ensures)
 
-forstmt-block-requires : (t : ℕ) → forstmt-lts.Need-block-requires (
-  source-name-reads.Asked,
-  source-name-reads.Learnt,
-  nextreg-reads.Asked,
-  nextreg-reads.Learnt,
-  start-reads.Asked,
-  start-reads.Learnt,
-  source-reads.Asked,
-  source-reads.Learnt,
-  for-head-reads.Asked,
-  for-head-reads.Learnt,
-  block-below t,
-  block.Post,
-  for-tail-reads.Asked,
-  for-tail-reads.Learnt,
-) (forstmt-at t) forstmt.Post
+forstmt-block-requires : (t : ℕ) → forstmt-lts.Need-block-requires (forstmt-claims t) (forstmt-at t) forstmt.Post
 forstmt-block-requires t c κs = (omega (arith, c .before .before .before .before .before .before .before .before .before .before .before .before .before .before .before .before .before .before .before .pre .0, for-falls (is-a-for (c .before .before .before .before .before .before .before .before .before .before .before .before .before .before .before .before .before .before .before .pre .1 .0) (c .before .before .before .before .before .before .before .before .before .before .before .before .before .before .before .before .before .before .before .pre .1 .1)) (c .before .before .before .before .before .before .before .before .before .before .before .before .before .before .before .before .before .before .before .pre .1 .0 .ready) (c .before .before .before .before .before .before .before .before .before .before .nextreg .ensures) (c .before .before .before .before .before .before .before .before .before .start .ensures) (c .before .before .before .before .before .before .before .source .ensures) (c .before .before .before .for-head .ensures) .0, for-falls (is-a-for (c .before .before .before .before .before .before .before .before .before .before .before .before .before .before .before .before .before .before .before .pre .1 .0) (c .before .before .before .before .before .before .before .before .before .before .before .before .before .before .before .before .before .before .before .pre .1 .1)) (c .before .before .before .before .before .before .before .before .before .before .before .before .before .before .before .before .before .before .before .pre .1 .0 .ready) (c .before .before .before .before .before .before .before .before .before .before .nextreg .ensures) (c .before .before .before .before .before .before .before .before .before .start .ensures) (c .before .before .before .before .before .before .before .source .ensures) (c .before .before .before .for-head .ensures) .1), for-block-reads (is-a-for (c .before .before .before .before .before .before .before .before .before .before .before .before .before .before .before .before .before .before .before .pre .1 .0) (c .before .before .before .before .before .before .before .before .before .before .before .before .before .before .before .before .before .before .before .pre .1 .1)) (c .before .before .before .before .before .before .before .before .before .before .before .before .before .before .before .before .before .before .before .pre .1 .0 .ready) (c .before .before .before .before .before .before .before .before .before .before .nextreg .ensures) (c .before .before .before .before .before .before .before .before .before .start .ensures) (c .before .before .before .before .before .before .before .source .ensures) (c .before .before .before .for-head .ensures))
 
-forstmt-for-tail-requires : (t : ℕ) → forstmt-lts.Need-for-tail-requires (
-  source-name-reads.Asked,
-  source-name-reads.Learnt,
-  nextreg-reads.Asked,
-  nextreg-reads.Learnt,
-  start-reads.Asked,
-  start-reads.Learnt,
-  source-reads.Asked,
-  source-reads.Learnt,
-  for-head-reads.Asked,
-  for-head-reads.Learnt,
-  block-below t,
-  block.Post,
-  for-tail-reads.Asked,
-  for-tail-reads.Learnt,
-) (forstmt-at t) forstmt.Post
+forstmt-for-tail-requires : (t : ℕ) → forstmt-lts.Need-for-tail-requires (forstmt-claims t) (forstmt-at t) forstmt.Post
 forstmt-for-tail-requires t c κs = tail-asks (is-a-for (c .before .before .before .before .before .before .before .before .before .before .before .before .before .before .before .before .before .before .before .before .before .before .before .pre .1 .0) (c .before .before .before .before .before .before .before .before .before .before .before .before .before .before .before .before .before .before .before .before .before .before .before .pre .1 .1)) (c .before .before .before .before .before .before .before .before .before .before .before .before .before .before .before .before .before .before .before .before .before .before .before .pre .1 .0 .ready) (c .before .before .before .before .before .before .before .before .before .before .before .before .before .before .nextreg .ensures) (c .before .before .before .before .before .before .before .before .before .before .before .before .before .start .ensures) (c .before .before .before .before .before .before .before .before .before .before .before .source .ensures) (c .before .before .before .before .before .before .before .for-head .ensures) (c .before .before .before .block .ensures)
 
-forstmt-same-length : (t : ℕ) → forstmt-lts.Need-same-length (
-  source-name-reads.Asked,
-  source-name-reads.Learnt,
-  nextreg-reads.Asked,
-  nextreg-reads.Learnt,
-  start-reads.Asked,
-  start-reads.Learnt,
-  source-reads.Asked,
-  source-reads.Learnt,
-  for-head-reads.Asked,
-  for-head-reads.Learnt,
-  block-below t,
-  block.Post,
-  for-tail-reads.Asked,
-  for-tail-reads.Learnt,
-) (forstmt-at t) forstmt.Post
+forstmt-same-length : (t : ℕ) → forstmt-lts.Need-same-length (forstmt-claims t) (forstmt-at t) forstmt.Post
 forstmt-same-length t c = c .before .before .for-tail .kept .1 .1 .1 .1 .1 .1 .0 ∙ c .before .before .before .before .before .before .block .kept .1 .1 .1 .1 .0 ∙ c .before .before .before .before .before .before .before .before .before .before .for-head .kept .1 .1 .1 .1 .1 .1 .0 ∙ c .before .before .before .before .before .before .before .before .before .before .before .before .before .before .source .kept .1 .1 .1 .1 .0
 
-forstmt-returns : (t : ℕ) → forstmt-lts.Need-returns (
-  source-name-reads.Asked,
-  source-name-reads.Learnt,
-  nextreg-reads.Asked,
-  nextreg-reads.Learnt,
-  start-reads.Asked,
-  start-reads.Learnt,
-  source-reads.Asked,
-  source-reads.Learnt,
-  for-head-reads.Asked,
-  for-head-reads.Learnt,
-  block-below t,
-  block.Post,
-  for-tail-reads.Asked,
-  for-tail-reads.Learnt,
-) (forstmt-at t) forstmt.Post
+forstmt-returns : (t : ℕ) → forstmt-lts.Need-returns (forstmt-claims t) (forstmt-at t) forstmt.Post
 forstmt-returns t c = for-goes (c .before .before .before .before .before .before .before .before .before .before .before .before .before .before .before .before .before .before .before .before .before .before .before .before .before .before .args .contents .now) (c .before .before .before .before .before .before .before .before .before .before .before .before .before .before .before .before .before .before .before .before .before .before .before .before .before .before .args .bodies .now) (c .before .before .before .before .before .before .before .before .before .before .before .before .before .before .before .before .before .before .before .before .before .before .before .before .before .before .args .p) (c .before .before .before .before .before .before .before .before .before .before .before .before .before .before .before .before .before .before .before .before .before .before .before .before .before .before .pre .1 .1) (c .before .before .before .before .before .before .before .before .before .before .before .before .before .before .before .before .before .nextreg .ensures) (c .before .before .before .before .before .before .before .before .before .before .before .before .before .before .before .before .start .ensures) (c .before .before .before .before .before .before .before .before .before .before .before .before .before .before .before .before .before .before .source-name .ensures) (c .before .before .before .before .before .before .before .before .before .before .before .before .before .before .source .ensures) (c .before .before .before .before .before .before .before .before .before .before .for-head .ensures) (c .before .before .before .before .before .before .block .ensures) (c .before .before .for-tail .ensures)
 
-ifstmt-shared-slice-read-n : (t : ℕ) → ifstmt-lts.Need-shared-slice-read-n (
-  pass-reads.Asked,
-  pass-reads.Learnt,
-  arm-below t,
-  arm.Post,
-) (ifstmt-at t) ifstmt.Post
+ifstmt-shared-slice-read-n : (t : ℕ) → ifstmt-lts.Need-shared-slice-read-n (ifstmt-claims t) (ifstmt-at t) ifstmt.Post
 ifstmt-shared-slice-read-n t c = omega (arith, if-counts (c .before .before .before .before .args .contents .now) (c .before .before .before .before .args .bodies .now) (c .before .before .before .before .args .p) (c .before .before .before .before .pre .1 .1) (c .before .before .before .before .pre .1 .0) .1)
 
-ifstmt-add-rest : (t : ℕ) → ifstmt-lts.Need-add-rest (
-  pass-reads.Asked,
-  pass-reads.Learnt,
-  arm-below t,
-  arm.Post,
-) (ifstmt-at t) ifstmt.Post
+ifstmt-add-rest : (t : ℕ) → ifstmt-lts.Need-add-rest (ifstmt-claims t) (ifstmt-at t) ifstmt.Post
 ifstmt-add-rest t c = omega (arith, stmt-room (c .before .before .before .before .args .contents .now) (c .before .before .before .before .args .bodies .now) (c .before .before .before .before .args .p) (c .before .before .before .before .pre .1 .0))
 
-ifstmt-shared-slice-read-rest : (t : ℕ) → ifstmt-lts.Need-shared-slice-read-rest (
-  pass-reads.Asked,
-  pass-reads.Learnt,
-  arm-below t,
-  arm.Post,
-) (ifstmt-at t) ifstmt.Post
+ifstmt-shared-slice-read-rest : (t : ℕ) → ifstmt-lts.Need-shared-slice-read-rest (ifstmt-claims t) (ifstmt-at t) ifstmt.Post
 ifstmt-shared-slice-read-rest t c = omega (arith, stmt-room (c .before .before .before .before .before .args .contents .now) (c .before .before .before .before .before .args .bodies .now) (c .before .before .before .before .before .args .p) (c .before .before .before .before .before .pre .1 .0))
 
-ifstmt-sub-rest : (t : ℕ) → ifstmt-lts.Need-sub-rest (
-  pass-reads.Asked,
-  pass-reads.Learnt,
-  arm-below t,
-  arm.Post,
-) (ifstmt-at t) ifstmt.Post
+ifstmt-sub-rest : (t : ℕ) → ifstmt-lts.Need-sub-rest (ifstmt-claims t) (ifstmt-at t) ifstmt.Post
 ifstmt-sub-rest t c = omega (arith, if-counts (c .before .before .before .before .before .args .contents .now) (c .before .before .before .before .before .args .bodies .now) (c .before .before .before .before .before .args .p) (c .before .before .before .before .before .pre .1 .1) (c .before .before .before .before .before .pre .1 .0) .0)
 
-ifstmt-sub-rest-2 : (t : ℕ) → ifstmt-lts.Need-sub-rest-2 (
-  pass-reads.Asked,
-  pass-reads.Learnt,
-  arm-below t,
-  arm.Post,
-) (ifstmt-at t) ifstmt.Post
+ifstmt-sub-rest-2 : (t : ℕ) → ifstmt-lts.Need-sub-rest-2 (ifstmt-claims t) (ifstmt-at t) ifstmt.Post
 ifstmt-sub-rest-2 t c = omega (arith, if-counts (c .before .before .before .before .before .args .contents .now) (c .before .before .before .before .before .args .bodies .now) (c .before .before .before .before .before .args .p) (c .before .before .before .before .before .pre .1 .1) (c .before .before .before .before .before .pre .1 .0) .0)
 
-ifstmt-pass-requires : (t : ℕ) → ifstmt-lts.Need-pass-requires (
-  pass-reads.Asked,
-  pass-reads.Learnt,
-  arm-below t,
-  arm.Post,
-) (ifstmt-at t) ifstmt.Post
+ifstmt-pass-requires : (t : ℕ) → ifstmt-lts.Need-pass-requires (ifstmt-claims t) (ifstmt-at t) ifstmt.Post
 ifstmt-pass-requires t c κs = (omega (arith, stmt-room (c .before .before .before .before .before .args .contents .now) (c .before .before .before .before .before .args .bodies .now) (c .before .before .before .before .before .args .p) (c .before .before .before .before .before .pre .1 .0), c .before .before .before .before .before .good .0 .0), omega (arith, if-counts (c .before .before .before .before .before .args .contents .now) (c .before .before .before .before .before .args .bodies .now) (c .before .before .before .before .before .args .p) (c .before .before .before .before .before .pre .1 .1) (c .before .before .before .before .before .pre .1 .0) .1, c .before .before .before .before .before .good .1 .0 .0))
 
-ifstmt-arm-requires : (t : ℕ) → ifstmt-lts.Need-arm-requires (
-  pass-reads.Asked,
-  pass-reads.Learnt,
-  arm-below t,
-  arm.Post,
-) (ifstmt-at t) ifstmt.Post
+ifstmt-arm-requires : (t : ℕ) → ifstmt-lts.Need-arm-requires (ifstmt-claims t) (ifstmt-at t) ifstmt.Post
 ifstmt-arm-requires t c κs = (omega (arith, c .before .before .before .before .before .before .before .pre .0, stmt-room (c .before .before .before .before .before .before .before .args .contents .now) (c .before .before .before .before .before .before .before .args .bodies .now) (c .before .before .before .before .before .before .before .args .p) (c .before .before .before .before .before .before .before .pre .1 .0), ap (λ (d : Done). d .cont) (c .before .pass .ensures)), if-reads (c .before .before .before .before .before .before .before .args .contents .now) (c .before .before .before .before .before .before .before .args .bodies .now) (c .before .before .before .before .before .before .before .args .p) (c .before .before .before .before .before .before .before .pre .1 .1) (c .before .pass .ensures) (getD (c .before .before .before .before .before .before .before .args .bodies .now) (c .before .before .before .before .before .before .before .args .p .body) 0) (getD (c .before .before .before .before .before .before .before .args .contents .now) (c .before .before .before .before .before .before .before .args .p .cont + 1) 0 - 2 - getD (c .before .before .before .before .before .before .before .args .bodies .now) (c .before .before .before .before .before .before .before .args .p .body) 0) refl (omega (arith, if-counts (c .before .before .before .before .before .before .before .args .contents .now) (c .before .before .before .before .before .before .before .args .bodies .now) (c .before .before .before .before .before .before .before .args .p) (c .before .before .before .before .before .before .before .pre .1 .1) (c .before .before .before .before .before .before .before .pre .1 .0) .0)) (c .before .before .before .before .before .before .before .pre .1 .0))
 
-ifstmt-same-length : (t : ℕ) → ifstmt-lts.Need-same-length (
-  pass-reads.Asked,
-  pass-reads.Learnt,
-  arm-below t,
-  arm.Post,
-) (ifstmt-at t) ifstmt.Post
+ifstmt-same-length : (t : ℕ) → ifstmt-lts.Need-same-length (ifstmt-claims t) (ifstmt-at t) ifstmt.Post
 ifstmt-same-length t c = c .before .before .arm .kept .1 .1 .1 .1 .1 .1 .0
 
-ifstmt-returns : (t : ℕ) → ifstmt-lts.Need-returns (
-  pass-reads.Asked,
-  pass-reads.Learnt,
-  arm-below t,
-  arm.Post,
-) (ifstmt-at t) ifstmt.Post
+ifstmt-returns : (t : ℕ) → ifstmt-lts.Need-returns (ifstmt-claims t) (ifstmt-at t) ifstmt.Post
 ifstmt-returns t c = if-goes (c .before .before .before .before .before .before .before .before .before .before .args .contents .now) (c .before .before .before .before .before .before .before .before .before .before .args .bodies .now) (c .before .before .before .before .before .before .before .before .before .before .args .p) (c .before .before .before .before .before .before .before .before .before .before .pre .1 .1) (c .before .before .before .before .pass .ensures) (getD (c .before .before .before .before .before .before .before .before .before .before .args .bodies .now) (c .before .before .before .before .before .before .before .before .before .before .args .p .body) 0) (getD (c .before .before .before .before .before .before .before .before .before .before .args .contents .now) (c .before .before .before .before .before .before .before .before .before .before .args .p .cont + 1) 0 - 2 - getD (c .before .before .before .before .before .before .before .before .before .before .args .bodies .now) (c .before .before .before .before .before .before .before .before .before .before .args .p .body) 0) refl (omega (arith, if-counts (c .before .before .before .before .before .before .before .before .before .before .args .contents .now) (c .before .before .before .before .before .before .before .before .before .before .args .bodies .now) (c .before .before .before .before .before .before .before .before .before .before .args .p) (c .before .before .before .before .before .before .before .before .before .before .pre .1 .1) (c .before .before .before .before .before .before .before .before .before .before .pre .1 .0) .0)) (c .before .before .arm .ensures)
 
 abbrev stmts-Inv-loop : stmts-lts.InvT-loop
@@ -1387,12 +410,12 @@ stmts-μ-loop n contents bodies keep out₀ q₀ more₀ out q more = more
 
 stmts-loop-holds :
     (t : ℕ) →
-    stmts-lts.Need-loop-holds (block-below t, block.Post) (stmts-at t) stmts.Post stmts-Inv-loop stmts-μ-loop
+    stmts-lts.Need-loop-holds (stmts-claims t) (stmts-at t) stmts.Post stmts-Inv-loop stmts-μ-loop
 stmts-loop-holds t c = (refl, left-start (c .before .before .before .pre .1))
 
 stmts-block-requires :
     (t : ℕ) →
-    stmts-lts.Need-block-requires (block-below t, block.Post) (stmts-at t) stmts.Post stmts-Inv-loop stmts-μ-loop
+    stmts-lts.Need-block-requires (stmts-claims t) (stmts-at t) stmts.Post stmts-Inv-loop stmts-μ-loop
 stmts-block-requires t c κs =
     let l = c .before .before .loop in
     let z : l .more ≡ 0 → ⊥ = λ e. omega (arith, e) in
@@ -1400,17 +423,17 @@ stmts-block-requires t c κs =
 
 stmts-sub-more :
     (t : ℕ) →
-    stmts-lts.Need-sub-more (block-below t, block.Post) (stmts-at t) stmts.Post stmts-Inv-loop stmts-μ-loop
+    stmts-lts.Need-sub-more (stmts-claims t) (stmts-at t) stmts.Post stmts-Inv-loop stmts-μ-loop
 stmts-sub-more t c = omega arith
 
 stmts-loop-less :
     (t : ℕ) →
-    stmts-lts.Need-loop-less (block-below t, block.Post) (stmts-at t) stmts.Post stmts-Inv-loop stmts-μ-loop
+    stmts-lts.Need-loop-less (stmts-claims t) (stmts-at t) stmts.Post stmts-Inv-loop stmts-μ-loop
 stmts-loop-less t c = omega arith
 
 stmts-loop-again :
     (t : ℕ) →
-    stmts-lts.Need-loop-again (block-below t, block.Post) (stmts-at t) stmts.Post stmts-Inv-loop stmts-μ-loop
+    stmts-lts.Need-loop-again (stmts-claims t) (stmts-at t) stmts.Post stmts-Inv-loop stmts-μ-loop
 stmts-loop-again t c =
     let l = c .before .before .before .before .before .loop in
     let z : l .more ≡ 0 → ⊥ = λ e. omega (arith, e) in
@@ -1420,30 +443,17 @@ stmts-loop-again t c =
 
 stmts-same-length :
     (t : ℕ) →
-    stmts-lts.Need-same-length (block-below t, block.Post) (stmts-at t) stmts.Post stmts-Inv-loop stmts-μ-loop
+    stmts-lts.Need-same-length (stmts-claims t) (stmts-at t) stmts.Post stmts-Inv-loop stmts-μ-loop
 stmts-same-length t c = c .before .loop .inv .0
 
 stmts-returns :
     (t : ℕ) →
-    stmts-lts.Need-returns (block-below t, block.Post) (stmts-at t) stmts.Post stmts-Inv-loop stmts-μ-loop
+    stmts-lts.Need-returns (stmts-claims t) (stmts-at t) stmts.Post stmts-Inv-loop stmts-μ-loop
 stmts-returns t c = left-end (c .before .loop .inv .1) (list-none (c .before .loop .more) (omega arith))
 
 pub +arm+block+blocks+elif+fndecl+forstmt+ifstmt+stmts-spec : {M : Type 1} → statement M
 +arm+block+blocks+elif+fndecl+forstmt+ifstmt+stmts-spec =
-    close μ-arm μ-block μ-blocks μ-elif μ-fndecl μ-forstmt μ-ifstmt μ-stmts (λ t. arm-lts.spec (
-      expr-at-reads.Asked,
-      expr-at-reads.Learnt,
-      jump-false-reads.Asked,
-      jump-false-reads.Learnt,
-      block-below t,
-      block.Post,
-      jump-end-reads.Asked,
-      jump-end-reads.Learnt,
-      update-op-at-reads.Asked,
-      update-op-at-reads.Learnt,
-      elif-below t,
-      elif.Post,
-    )
+    close μ-arm μ-block μ-blocks μ-elif μ-fndecl μ-forstmt μ-ifstmt μ-stmts (λ t. arm-lts.spec (arm-claims t)
     (arm-at t)
     arm.Post
     (arm-expr-at-requires t)
@@ -1455,24 +465,7 @@ pub +arm+block+blocks+elif+fndecl+forstmt+ifstmt+stmts-spec : {M : Type 1} → s
     (arm-update-op-at-requires-2 t)
     (arm-same-length t)
     (arm-returns t))
-    (λ t. block-lts.spec (
-      pass-reads.Asked,
-      pass-reads.Learnt,
-      blocks-below t,
-      blocks.Post,
-      ifstmt-below t,
-      ifstmt.Post,
-      forstmt-below t,
-      forstmt.Post,
-      ret-reads.Asked,
-      ret-reads.Learnt,
-      expr-stmt-reads.Asked,
-      expr-stmt-reads.Learnt,
-      vardecl-reads.Asked,
-      vardecl-reads.Learnt,
-      fndecl-below t,
-      fndecl.Post,
-    )
+    (λ t. block-lts.spec (block-claims t)
     (block-at t)
     block.Post
     (block-shared-slice-read-kind t)
@@ -1500,8 +493,7 @@ pub +arm+block+blocks+elif+fndecl+forstmt+ifstmt+stmts-spec : {M : Type 1} → s
     (block-fndecl-requires t)
     (block-same-length-7 t)
     (block-returns-7 t))
-    (λ t. blocks-lts.spec
-    (nop-reads.Asked, nop-reads.Learnt, stmts-below t, stmts.Post)
+    (λ t. blocks-lts.spec (blocks-claims t)
     (blocks-at t)
     blocks.Post
     (blocks-nop-requires t)
@@ -1510,16 +502,7 @@ pub +arm+block+blocks+elif+fndecl+forstmt+ifstmt+stmts-spec : {M : Type 1} → s
     (blocks-stmts-requires t)
     (blocks-same-length-2 t)
     (blocks-returns-2 t))
-    (λ t. elif-lts.spec (
-      stmts-below t,
-      stmts.Post,
-      if-end-reads.Asked,
-      if-end-reads.Learnt,
-      pass-reads.Asked,
-      pass-reads.Learnt,
-      arm-below t,
-      arm.Post,
-    )
+    (λ t. elif-lts.spec (elif-claims t)
     (elif-at t)
     elif.Post
     (elif-stmts-requires t)
@@ -1531,14 +514,7 @@ pub +arm+block+blocks+elif+fndecl+forstmt+ifstmt+stmts-spec : {M : Type 1} → s
     (elif-arm-requires t)
     (elif-same-length-2 t)
     (elif-returns-2 t))
-    (λ t. fndecl-lts.spec (
-      fn-head-reads.Asked,
-      fn-head-reads.Learnt,
-      block-below t,
-      block.Post,
-      newlbl-reads.Asked,
-      newlbl-reads.Learnt,
-    )
+    (λ t. fndecl-lts.spec (fndecl-claims t)
     (fndecl-at t)
     fndecl.Post
     (fndecl-fn-head-requires t)
@@ -1546,22 +522,7 @@ pub +arm+block+blocks+elif+fndecl+forstmt+ifstmt+stmts-spec : {M : Type 1} → s
     (fndecl-newlbl-requires t)
     (fndecl-same-length t)
     (fndecl-returns t))
-    (λ t. forstmt-lts.spec (
-      source-name-reads.Asked,
-      source-name-reads.Learnt,
-      nextreg-reads.Asked,
-      nextreg-reads.Learnt,
-      start-reads.Asked,
-      start-reads.Learnt,
-      source-reads.Asked,
-      source-reads.Learnt,
-      for-head-reads.Asked,
-      for-head-reads.Learnt,
-      block-below t,
-      block.Post,
-      for-tail-reads.Asked,
-      for-tail-reads.Learnt,
-    )
+    (λ t. forstmt-lts.spec (forstmt-claims t)
     (forstmt-at t)
     forstmt.Post
     (forstmt-shared-slice-read-i t)
@@ -1582,8 +543,7 @@ pub +arm+block+blocks+elif+fndecl+forstmt+ifstmt+stmts-spec : {M : Type 1} → s
     (forstmt-for-tail-requires t)
     (forstmt-same-length t)
     (forstmt-returns t))
-    (λ t. ifstmt-lts.spec
-    (pass-reads.Asked, pass-reads.Learnt, arm-below t, arm.Post)
+    (λ t. ifstmt-lts.spec (ifstmt-claims t)
     (ifstmt-at t)
     ifstmt.Post
     (ifstmt-shared-slice-read-n t)
@@ -1595,8 +555,7 @@ pub +arm+block+blocks+elif+fndecl+forstmt+ifstmt+stmts-spec : {M : Type 1} → s
     (ifstmt-arm-requires t)
     (ifstmt-same-length t)
     (ifstmt-returns t))
-    λ t. stmts-lts.spec
-    (block-below t, block.Post)
+    λ t. stmts-lts.spec (stmts-claims t)
     (stmts-at t)
     stmts.Post
     stmts-Inv-loop

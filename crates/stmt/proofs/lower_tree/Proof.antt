@@ -1,6 +1,6 @@
 use native.Mathlib.Omega.{arith}
 use mathlib.Core.Path.{refl}
-use Rattle.stmt.specs.Whole.{tree-room, tree-reads, tree-did}
+use Rattle.stmt.specs.laws.Whole.{tree-room, tree-reads, tree-did}
 use borrow.Author.Needs.{needs}
 use Rattle.stmt.proofs.lower_tree.Statement.{statement}
 use Rattle.stmt.proofs.lower_tree.Tie as tie

@@ -5,7 +5,7 @@ use Prim.Native.Nat.{ℕ}
 use native.Mathlib.Omega.{arith}
 use Rattle.lent.specs.Bytes.{splice}
 use Rattle.tables.specs.ProgramBytes.{functionBytes}
-use Rattle.tables.specs.EntryLaws.{functions-begun, labels-length, labels-records, labels-behind}
+use Rattle.tables.specs.laws.EntryLaws.{functions-begun, labels-length, labels-records, labels-behind}
 use Rattle.tables.proofs.compute.Statement.{statement}
 use Rattle.tables.proofs.compute.Tie as tie
 

@@ -6,8 +6,8 @@ use lib.Dec.{eqb}
 use lib.ListN.{length, getD}
 use Rattle.opc.specs.Op.{Code}
 use Rattle.tables.specs.Tables.{functionAt}
-use Rattle.tables.specs.Entries.{Begun}
-use Rattle.tables.specs.EntryLaws.{Turned, functionsGo, turned-start, turned-end, entered-length, functions-next}
+use Rattle.tables.specs.inner.Entries.{Begun}
+use Rattle.tables.specs.laws.EntryLaws.{Turned, functionsGo, turned-start, turned-end, entered-length, functions-next}
 use Rattle.tables.proofs.functions.Statement.{statement}
 use Rattle.tables.proofs.functions.Tie as tie
 

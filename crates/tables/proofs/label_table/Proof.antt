@@ -1,6 +1,6 @@
 use borrow.Author.Needs.{needs}
 use native.Mathlib.Omega.{arith}
-use Rattle.tables.specs.EntryLaws.{first, first-length, labels-begun, labels-whole, labels-none}
+use Rattle.tables.specs.laws.EntryLaws.{first, first-length, labels-begun, labels-whole, labels-none}
 use Rattle.tables.proofs.label_table.Statement.{statement}
 use Rattle.tables.proofs.label_table.Tie as tie
 

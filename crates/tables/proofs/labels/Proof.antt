@@ -8,8 +8,8 @@ use lib.Dec.{eqb}
 use lib.ListN.{length}
 use Rattle.opc.specs.Op.{Code}
 use Rattle.tables.specs.Tables.{entered}
-use Rattle.tables.specs.Entries.{Begun}
-use Rattle.tables.specs.EntryLaws.{Turned, labelsGo, turned-start, turned-end, entered-length, label-small-next, labels-next}
+use Rattle.tables.specs.inner.Entries.{Begun}
+use Rattle.tables.specs.laws.EntryLaws.{Turned, labelsGo, turned-start, turned-end, entered-length, label-small-next, labels-next}
 use Rattle.tables.proofs.labels.Statement.{statement}
 use Rattle.tables.proofs.labels.Tie as tie
 

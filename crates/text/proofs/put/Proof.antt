@@ -1,7 +1,7 @@
 use borrow.Author.Needs.{needs}
-use Rattle.text.specs.PutLaws.{put-one, put-full}
+use Rattle.text.specs.laws.PutLaws.{put-one, put-full}
 use Rattle.text.specs.Put.{Put}
-use Rattle.lent.specs.Parts.{splice-one}
+use Rattle.lent.specs.laws.Parts.{splice-one}
 use Prim.Native.Nat.{ℕ, _+_}
 use mathlib.Core.List.{List, [], _∷_}
 use mathlib.Core.Path.{subst}

@@ -1,5 +1,5 @@
 use borrow.Author.Needs.{needs}
-use Rattle.text.specs.PutLaws.{put-none, put-within, put-next, put-length}
+use Rattle.text.specs.laws.PutLaws.{put-none, put-within, put-next, put-length}
 use Rattle.text.specs.Put.{Put}
 use lib.Seq.{take-length}
 use lib.ListN.{length, take}

@@ -4,7 +4,7 @@ use Rattle.sifv.specs.Value.{Bl}
 use mathlib.Core.Bool.{Bool}
 use mathlib.Core.Path.{_≡_, sym, subst}
 use Rattle.text.specs.Put.{Put}
-use Rattle.text.specs.PutLaws.{put-then}
+use Rattle.text.specs.laws.PutLaws.{put-then}
 use Rattle.text.proofs.put_bl.Statement.{statement}
 use Rattle.text.proofs.put_bl.Tie as tie
 use Rattle.text.proofs.put_bl.Reads as reads

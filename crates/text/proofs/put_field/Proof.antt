@@ -1,5 +1,5 @@
 use borrow.Author.Needs.{needs}
-use Rattle.text.specs.PutLaws.{put-then}
+use Rattle.text.specs.laws.PutLaws.{put-then}
 use Rattle.text.proofs.put_field.Statement.{statement}
 use Rattle.text.proofs.put_field.Tie as tie
 use Rattle.text.proofs.put_field.Reads as reads

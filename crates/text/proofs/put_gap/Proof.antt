@@ -1,5 +1,5 @@
 use borrow.Author.Needs.{needs}
-use Rattle.text.specs.Joined.{gap-none, gap-some}
+use Rattle.text.specs.laws.Joined.{gap-none, gap-some}
 use Rattle.text.specs.Text.{ascii}
 use Rattle.text.proofs.put_gap.Statement.{statement}
 use Rattle.text.proofs.put_gap.Tie as tie

@@ -1,10 +1,9 @@
 use borrow.Author.Needs.{needs}
-use Rattle.numeric.specs.Patterns.{bitsOf}
 use Rattle.text.specs.Text.{hex}
 use Prim.Native.Nat.{ℕ}
-use mathlib.Core.Path.{_≡_, sym, subst}
+use mathlib.Core.Path.{_≡_, subst}
 use Rattle.text.specs.Put.{Put}
-use Rattle.text.specs.PutLaws.{put-then}
+use Rattle.text.specs.laws.PutLaws.{put-then}
 use Rattle.text.proofs.put_num.Statement.{statement}
 use Rattle.text.proofs.put_num.Tie as tie
 use Rattle.text.proofs.put_num.Reads as reads
@@ -12,6 +11,7 @@ use Rattle.text.proofs.put_num.Lts as lts
 use Rattle.numeric.proofs.bits_of.Reads as bits-of-reads
 use Rattle.text.proofs.put_all.Reads as put-all-reads
 use Rattle.text.proofs.put_hex.Reads as put-hex-reads
+use Rattle.numeric.specs.inner.Patterns.{bitsOf}
 
 -- src/lib.rt:96:30
 slice-aggregate-put-all : tie.Need-slice-aggregate-put-all

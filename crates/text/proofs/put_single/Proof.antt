@@ -1,10 +1,9 @@
 use borrow.Author.Needs.{needs}
 use Rattle.text.specs.Text.{singleText}
-use Rattle.sifv.specs.Seen.{plain}
+use Rattle.sifv.specs.inner.Seen.{singleSeen}
 use Rattle.sifv.specs.declared.SifVal.{SifVal}
-use mathlib.Core.Path.{_≡_, sym, subst}
+use mathlib.Core.Path.{sym, subst}
 use Rattle.text.specs.Put.{Put}
-use Rattle.text.specs.PutLaws.{put-then}
 use Rattle.text.proofs.put_single.Statement.{statement}
 use Rattle.text.proofs.put_single.Tie as tie
 use Rattle.text.proofs.put_single.Reads as reads
@@ -76,7 +75,7 @@ same-length c = search needs
 
 -- src/lib.rt:126:1
 returns : tie.Need-returns
-returns c = let s = c .before .before .before .before .before .before .before in subst (λ (v : SifVal). Put (s .args .out .now) (s .args .at) (singleText (plain v)) (c .before .before .put-null .last .0) (c .before .before .put-null .result)) (sym (c .before .before .before .before .enum-told .given .1)) (c .before .before .put-null .ensures)
+returns c = let s = c .before .before .before .before .before .before .before in subst (λ (v : SifVal). Put (s .args .out .now) (s .args .at) (singleText (singleSeen v)) (c .before .before .put-null .last .0) (c .before .before .put-null .result)) (sym (c .before .before .before .before .enum-told .given .1)) (c .before .before .put-null .ensures)
 
 -- src/lib.rt:126:1
 same-length-2 : tie.Need-same-length-2
@@ -84,7 +83,7 @@ same-length-2 c = search needs
 
 -- src/lib.rt:126:1
 returns-2 : tie.Need-returns-2
-returns-2 c = let s = c .before .before .before .before .before .before .before .before in subst (λ (v : SifVal). Put (s .args .out .now) (s .args .at) (singleText (plain v)) (c .before .before .put-num .last .0) (c .before .before .put-num .result)) (sym (c .before .before .before .before .before .v .given .1)) (c .before .before .put-num .ensures)
+returns-2 c = let s = c .before .before .before .before .before .before .before .before in subst (λ (v : SifVal). Put (s .args .out .now) (s .args .at) (singleText (singleSeen v)) (c .before .before .put-num .last .0) (c .before .before .put-num .result)) (sym (c .before .before .before .before .before .v .given .1)) (c .before .before .put-num .ensures)
 
 -- src/lib.rt:126:1
 same-length-3 : tie.Need-same-length-3
@@ -92,7 +91,7 @@ same-length-3 c = search needs
 
 -- src/lib.rt:126:1
 returns-3 : tie.Need-returns-3
-returns-3 c = let s = c .before .before .before .before .before .before .before .before in subst (λ (v : SifVal). Put (s .args .out .now) (s .args .at) (singleText (plain v)) (c .before .before .put-str .last .0) (c .before .before .put-str .result)) (sym (c .before .before .before .before .before .v2 .given .1)) (c .before .before .put-str .ensures)
+returns-3 c = let s = c .before .before .before .before .before .before .before .before in subst (λ (v : SifVal). Put (s .args .out .now) (s .args .at) (singleText (singleSeen v)) (c .before .before .put-str .last .0) (c .before .before .put-str .result)) (sym (c .before .before .before .before .before .v2 .given .1)) (c .before .before .put-str .ensures)
 
 -- src/lib.rt:126:1
 same-length-4 : tie.Need-same-length-4
@@ -100,7 +99,7 @@ same-length-4 c = search needs
 
 -- src/lib.rt:126:1
 returns-4 : tie.Need-returns-4
-returns-4 c = let s = c .before .before .before .before .before .before .before .before in subst (λ (v : SifVal). Put (s .args .out .now) (s .args .at) (singleText (plain v)) (c .before .before .put-bl .last .0) (c .before .before .put-bl .result)) (sym (c .before .before .before .before .before .v3 .given .1)) (c .before .before .put-bl .ensures)
+returns-4 c = let s = c .before .before .before .before .before .before .before .before in subst (λ (v : SifVal). Put (s .args .out .now) (s .args .at) (singleText (singleSeen v)) (c .before .before .put-bl .last .0) (c .before .before .put-bl .result)) (sym (c .before .before .before .before .before .v3 .given .1)) (c .before .before .put-bl .ensures)
 
 -- src/lib.rt:126:1
 same-length-5 : tie.Need-same-length-5
@@ -108,7 +107,7 @@ same-length-5 c = search needs
 
 -- src/lib.rt:126:1
 returns-5 : tie.Need-returns-5
-returns-5 c = let s = c .before .before .before .before .before .before .before in subst (λ (v : SifVal). Put (s .args .out .now) (s .args .at) (singleText (plain v)) (c .before .before .put-null2 .last .0) (c .before .before .put-null2 .result)) (sym (c .before .before .before .before .enum-told2 .given .1)) (c .before .before .put-null2 .ensures)
+returns-5 c = let s = c .before .before .before .before .before .before .before in subst (λ (v : SifVal). Put (s .args .out .now) (s .args .at) (singleText (singleSeen v)) (c .before .before .put-null2 .last .0) (c .before .before .put-null2 .result)) (sym (c .before .before .before .before .enum-told2 .given .1)) (c .before .before .put-null2 .ensures)
 
 -- src/lib.rt:126:1
 same-length-6 : tie.Need-same-length-6
@@ -116,7 +115,7 @@ same-length-6 c = search needs
 
 -- src/lib.rt:126:1
 returns-6 : tie.Need-returns-6
-returns-6 c = let s = c .before .before .before .before .before .before .before in subst (λ (v : SifVal). Put (s .args .out .now) (s .args .at) (singleText (plain v)) (c .before .before .put-null3 .last .0) (c .before .before .put-null3 .result)) (sym (c .before .before .before .before .enum-told3 .given .1)) (c .before .before .put-null3 .ensures)
+returns-6 c = let s = c .before .before .before .before .before .before .before in subst (λ (v : SifVal). Put (s .args .out .now) (s .args .at) (singleText (singleSeen v)) (c .before .before .put-null3 .last .0) (c .before .before .put-null3 .result)) (sym (c .before .before .before .before .enum-told3 .given .1)) (c .before .before .put-null3 .ensures)
 
 -- src/lib.rt:126:1
 same-length-7 : tie.Need-same-length-7
@@ -124,7 +123,7 @@ same-length-7 c = search needs
 
 -- src/lib.rt:126:1
 returns-7 : tie.Need-returns-7
-returns-7 c = let s = c .before .before .before .before .before .before .before in subst (λ (v : SifVal). Put (s .args .out .now) (s .args .at) (singleText (plain v)) (c .before .before .put-null4 .last .0) (c .before .before .put-null4 .result)) (sym (c .before .before .before .before .enum-told4 .given .1)) (c .before .before .put-null4 .ensures)
+returns-7 c = let s = c .before .before .before .before .before .before .before in subst (λ (v : SifVal). Put (s .args .out .now) (s .args .at) (singleText (singleSeen v)) (c .before .before .put-null4 .last .0) (c .before .before .put-null4 .result)) (sym (c .before .before .before .before .enum-told4 .given .1)) (c .before .before .put-null4 .ensures)
 
 pub put-single-spec : {M : Type 1} → statement M
 put-single-spec =

@@ -1,7 +1,7 @@
 use borrow.Author.Needs.{needs}
 use mathlib.Core.Path.{_≡_, sym, subst}
 use Rattle.text.specs.Put.{Put}
-use Rattle.text.specs.PutLaws.{put-then}
+use Rattle.text.specs.laws.PutLaws.{put-then}
 use Rattle.text.proofs.put_str.Statement.{statement}
 use Rattle.text.proofs.put_str.Tie as tie
 use Rattle.text.proofs.put_str.Reads as reads

@@ -1,9 +1,9 @@
 use borrow.Author.Needs.{needs}
-use Rattle.text.specs.PutLaws.{put-none, put-length, put-within}
+use Rattle.text.specs.laws.PutLaws.{put-none, put-length, put-within}
 use Rattle.text.specs.Put.{Put}
 use Rattle.text.specs.Text.{ascii, joined, entryText}
-use Rattle.values.specs.SlotTextLaws.{entries-turn}
-use Rattle.sifv.specs.Seen.{entriesIn}
+use Rattle.values.specs.laws.SlotTextLaws.{entries-turn}
+use Rattle.sifv.specs.inner.Seen.{entriesIn}
 use Rattle.lent.specs.Bytes.{part}
 use Prim.Native.Nat.{ℕ, _-_, _≤_}
 use mathlib.Core.List.{map}

@@ -1,5 +1,5 @@
 use borrow.Author.Needs.{needs}
-use Rattle.values.specs.SlotTextLaws.{entry-put}
+use Rattle.values.specs.laws.SlotTextLaws.{entry-put}
 use Rattle.values.proofs.put_entry.Statement.{statement}
 use Rattle.values.proofs.put_entry.Tie as tie
 use Rattle.values.proofs.put_entry.Reads as reads

@@ -1,8 +1,8 @@
 use borrow.Author.Needs.{needs}
-use Rattle.text.specs.PutLaws.{put-none, put-length, put-within}
+use Rattle.text.specs.laws.PutLaws.{put-none, put-length, put-within}
 use Rattle.text.specs.Put.{Put}
 use Rattle.text.specs.Text.{ascii, joined, singleText}
-use Rattle.values.specs.SlotTextLaws.{items-turn}
+use Rattle.values.specs.laws.SlotTextLaws.{items-turn}
 use Rattle.sifv.specs.Slot.{contents}
 use Rattle.lent.specs.Bytes.{part}
 use Prim.Native.Nat.{ℕ, _-_, _≤_}

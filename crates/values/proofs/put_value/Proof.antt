@@ -1,5 +1,5 @@
 use borrow.Author.Needs.{needs}
-use Rattle.values.specs.SlotTextLaws.{arr-shown, tab-shown, value-none, value-one, value-arr, value-tab}
+use Rattle.values.specs.laws.SlotTextLaws.{arr-shown, tab-shown, value-none, value-one, value-arr, value-tab}
 use Rattle.lent.specs.Bytes.{part}
 use mathlib.Core.Path.{sym, _∙_}
 use native.Mathlib.Omega.{arith}

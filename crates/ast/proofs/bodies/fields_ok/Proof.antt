@@ -1,7 +1,7 @@
 use Rattle.ast.proofs.Rooms.{at-place, to-end}
 use Rattle.ast.proofs.Scan.{turn, done, nodes-end}
-use Rattle.ast.specs.Room.{Room}
-use Rattle.ast.specs.File.{all, nodeOk, nodesFrom}
+use Rattle.ast.specs.inner.Room.{Room}
+use Rattle.ast.specs.File.{nodeOk, nodesFrom}
 use lib.ListN.{length, drop}
 use native.Mathlib.Omega.{arith}
 use borrow.Author.Needs.{needs}
@@ -10,6 +10,7 @@ use mathlib.Core.Bool.{_&&_}
 use mathlib.Core.Path.{_≡_, refl, ap}
 use Rattle.ast.proofs.bodies.fields_ok.Statement.{statement}
 use Rattle.ast.proofs.bodies.fields_ok.Tie as tie
+use Rattle.lent.specs.Lists.{all}
 
 abbrev Inv-loop : tie.InvT-loop
 Inv-loop texts entries bodies ok₀ at₀ i₀ ok at i = (at ≤ length bodies) × Room (drop i entries) (drop at bodies) × (all (nodeOk texts) (nodesFrom entries bodies) ≡ (ok && all (nodeOk texts) (nodesFrom (drop i entries) (drop at bodies))))

@@ -1,5 +1,5 @@
 use Rattle.ast.proofs.Scan.{sizes-next, sizes-end}
-use Rattle.ast.specs.File.{sum, firsts}
+use Rattle.ast.specs.File.{firsts}
 use Rattle.ast.specs.Node.{kindOf, body, bodySize}
 use lib.ListN.{length, drop}
 use borrow.Author.Needs.{needs}
@@ -9,6 +9,7 @@ use mathlib.Core.List.{map}
 use mathlib.Core.Path.{_≡_}
 use Rattle.ast.proofs.bodies.node_bytes.Statement.{statement}
 use Rattle.ast.proofs.bodies.node_bytes.Tie as tie
+use Rattle.lent.specs.Lists.{sum}
 
 abbrev Inv-loop : tie.InvT-loop
 Inv-loop entries total₀ i₀ total i = (i ≤ 2049) × (total ≤ 8 * i) × (sum (map (λ (k : ℕ). bodySize (body (kindOf k))) (firsts entries)) ≡ total + sum (map (λ (k : ℕ). bodySize (body (kindOf k))) (firsts (drop i entries))))

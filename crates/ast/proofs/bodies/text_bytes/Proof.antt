@@ -1,11 +1,11 @@
 use Rattle.ast.proofs.Scan.{sum-next, sum-end}
-use Rattle.ast.specs.File.{sum}
 use lib.ListN.{length, drop}
 use native.Mathlib.Omega.{arith}
 use Prim.Native.Nat.{_+_, _*_, _≤_, _-_}
 use mathlib.Core.Path.{_≡_}
 use Rattle.ast.proofs.bodies.text_bytes.Statement.{statement}
 use Rattle.ast.proofs.bodies.text_bytes.Tie as tie
+use Rattle.lent.specs.Lists.{sum}
 
 abbrev Inv-loop : tie.InvT-loop
 Inv-loop lengths total₀ i₀ total i = (i ≤ length lengths) × (total ≤ 255 * i) × (sum lengths ≡ total + sum (drop i lengths))

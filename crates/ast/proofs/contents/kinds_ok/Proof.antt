@@ -1,6 +1,6 @@
 use Prim.Native.Nat.{_-_}
 use Rattle.ast.proofs.Scan.{turn, done, firsts-next, firsts-end}
-use Rattle.ast.specs.File.{all, between, firsts}
+use Rattle.ast.specs.File.{between, firsts}
 use lib.ListN.{length, drop}
 use native.Mathlib.Omega.{arith}
 use borrow.Author.Needs.{needs}
@@ -8,6 +8,7 @@ use mathlib.Core.Bool.{_&&_}
 use mathlib.Core.Path.{_≡_, refl, ap}
 use Rattle.ast.proofs.contents.kinds_ok.Statement.{statement}
 use Rattle.ast.proofs.contents.kinds_ok.Tie as tie
+use Rattle.lent.specs.Lists.{all}
 
 abbrev Inv-loop : tie.InvT-loop
 Inv-loop entries ok₀ i₀ ok i = all (between 1 23) (firsts entries) ≡ (ok && all (between 1 23) (firsts (drop i entries)))

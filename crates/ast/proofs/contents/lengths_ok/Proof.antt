@@ -1,5 +1,4 @@
 use Rattle.ast.proofs.Scan.{turn, done, all-next, all-end}
-use Rattle.ast.specs.File.{all}
 use lib.ListN.{length, drop}
 use lib.Dec.{leb}
 use native.Mathlib.Omega.{arith}
@@ -8,6 +7,7 @@ use mathlib.Core.Bool.{_&&_}
 use mathlib.Core.Path.{_≡_, refl}
 use Rattle.ast.proofs.contents.lengths_ok.Statement.{statement}
 use Rattle.ast.proofs.contents.lengths_ok.Tie as tie
+use Rattle.lent.specs.Lists.{all}
 
 abbrev Inv-loop : tie.InvT-loop
 Inv-loop lengths ok₀ i₀ ok i = (i ≤ length lengths) × (all (λ (n : ℕ). leb n 40) lengths ≡ (ok && all (λ (n : ℕ). leb n 40) (drop i lengths)))

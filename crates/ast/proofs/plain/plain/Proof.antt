@@ -4,11 +4,11 @@ use Prim.Native.Nat.{ℕ, _+_, _*_, _-_, _≤_}
 use native.Mathlib.Omega.{arith}
 use lib.ListN.{length, take, drop}
 use borrow.Author.Needs.{needs}
-use Rattle.lent.specs.Each.{each-of}
+use Rattle.lent.specs.laws.Each.{each-of}
 use Rattle.lent.specs.Bytes.{AreBytes}
 use Rattle.ast.specs.File.{nodeCount, textCount, entries}
-use Rattle.ast.specs.PlainFile.{Accepted, accepted, plain-file, plain-refused}
-use Rattle.ast.specs.Under as Rule
+use Rattle.ast.specs.laws.PlainFile.{Accepted, accepted, plain-file, plain-refused}
+use Rattle.ast.specs.inner.Under as Rule
 use Rattle.ast.proofs.Cuts.{part-end}
 use Rattle.ast.proofs.Order.{entries-size}
 use Rattle.ast.proofs.plain.plain.Statement.{statement}

@@ -7,7 +7,7 @@ use native.Mathlib.Omega.{arith}
 use lib.ListN.{length, getD, drop, length-drop}
 use lib.Seq.{drop-cons}
 use borrow.Author.Needs.{needs}
-use Rattle.ast.specs.Under as Rule
+use Rattle.ast.specs.inner.Under as Rule
 use Rattle.ast.proofs.Scan.{turn, done}
 use Rattle.ast.proofs.plain.scan.Statement.{statement}
 use Rattle.ast.proofs.plain.scan.Tie as tie

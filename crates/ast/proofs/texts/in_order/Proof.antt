@@ -1,7 +1,7 @@
 use native.Mathlib.Nat.{sub-zero}
 use Rattle.ast.proofs.Cuts.{ascending-next, ascending-end, part-end, cut-first, sum-first, cut-none}
 use Rattle.ast.proofs.Scan.{turn, done, sum-next}
-use Rattle.ast.specs.File.{sum, cut, ascending}
+use Rattle.ast.specs.File.{cut, ascending}
 use lib.ListN.{length, take, drop}
 use native.Mathlib.Omega.{arith}
 use borrow.Author.Needs.{needs}
@@ -11,6 +11,7 @@ use mathlib.Core.Bool.{_&&_}
 use mathlib.Core.Path.{_≡_, ap, sym}
 use Rattle.ast.proofs.texts.in_order.Statement.{statement}
 use Rattle.ast.proofs.texts.in_order.Tie as tie
+use Rattle.lent.specs.Lists.{sum}
 
 abbrev Inv-loop : tie.InvT-loop
 Inv-loop lengths texts ok₀ from₀ at₀ i₀ ok from at i = (i ≤ length lengths) × (from ≤ at) × (at + sum (drop i lengths) ≤ length texts) × (ascending (cut lengths texts) ≡ (ok && ascending (take (at - from) (drop from texts) ∷ cut (drop i lengths) (drop at texts))))

@@ -1,6 +1,6 @@
 use Rattle.ast.proofs.Cuts.{cut-next, cut-end, part-end}
 use Rattle.ast.proofs.Scan.{turn, done, sum-next}
-use Rattle.ast.specs.File.{sum, all, cut, fortmp}
+use Rattle.ast.specs.File.{cut, fortmp}
 use Rattle.lent.specs.Bytes.{sameBytes}
 use lib.ListN.{length, drop}
 use native.Mathlib.Omega.{arith}
@@ -11,6 +11,7 @@ use mathlib.Core.Bool.{not, _&&_}
 use mathlib.Core.Path.{_≡_, refl, ap}
 use Rattle.ast.proofs.texts.none_fortmp.Statement.{statement}
 use Rattle.ast.proofs.texts.none_fortmp.Tie as tie
+use Rattle.lent.specs.Lists.{sum, all}
 
 abbrev Inv-loop : tie.InvT-loop
 Inv-loop lengths texts ok₀ at₀ i₀ ok at i = (i ≤ length lengths) × (at + sum (drop i lengths) ≤ length texts) × (all (λ (s : List ℕ). not (sameBytes s fortmp)) (cut lengths texts) ≡ (ok && all (λ (s : List ℕ). not (sameBytes s fortmp)) (cut (drop i lengths) (drop at texts))))

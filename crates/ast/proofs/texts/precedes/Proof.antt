@@ -1,5 +1,5 @@
 use Rattle.ast.proofs.Compare.{before-short, before-ends, before-less, before-more, before-same}
-use Rattle.ast.specs.File.{before}
+use Rattle.ast.specs.File.{precedes}
 use lib.ListN.{length, drop}
 use native.Mathlib.Omega.{arith}
 use Prim.Native.Nat.{_≤_, _-_}
@@ -8,7 +8,7 @@ use Rattle.ast.proofs.texts.precedes.Statement.{statement}
 use Rattle.ast.proofs.texts.precedes.Tie as tie
 
 abbrev Inv-loop : tie.InvT-loop
-Inv-loop a b i₀ i = (i ≤ length a) × (before a b ≡ before (drop i a) (drop i b))
+Inv-loop a b i₀ i = (i ≤ length a) × (precedes a b ≡ precedes (drop i a) (drop i b))
 
 abbrev μ-loop : tie.MeasureT-loop
 μ-loop a b i₀ i = length a - i

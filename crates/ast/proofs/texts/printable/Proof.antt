@@ -1,5 +1,5 @@
 use Rattle.ast.proofs.Scan.{turn, done, all-next, all-end}
-use Rattle.ast.specs.File.{all, between}
+use Rattle.ast.specs.File.{between}
 use lib.ListN.{length, drop}
 use native.Mathlib.Omega.{arith}
 use borrow.Author.Needs.{needs}
@@ -8,6 +8,7 @@ use mathlib.Core.Bool.{_&&_}
 use mathlib.Core.Path.{_≡_, refl}
 use Rattle.ast.proofs.texts.printable.Statement.{statement}
 use Rattle.ast.proofs.texts.printable.Tie as tie
+use Rattle.lent.specs.Lists.{all}
 
 abbrev Inv-loop : tie.InvT-loop
 Inv-loop texts ok₀ i₀ ok i = (i ≤ length texts) × (all (between 32 126) texts ≡ (ok && all (between 32 126) (drop i texts)))

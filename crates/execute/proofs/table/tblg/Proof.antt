@@ -3,9 +3,9 @@ use mathlib.Core.Path.{refl, sym, ap, _∙_}
 use native.Mathlib.Omega.{arith}
 use borrow.Author.Tests.{not-true, not-false}
 use Rattle.lent.specs.Bytes.{part}
-use Rattle.sifv.specs.Inserts.{key-in}
-use Rattle.execute.specs.Acts.{name-formed, reg-formed}
-use Rattle.execute.specs.Tabled.{name-small, looked-unset, looked-off, looked-absent, looked-found}
+use Rattle.sifv.specs.laws.Inserts.{key-in}
+use Rattle.execute.specs.laws.Acts.{name-formed, reg-formed}
+use Rattle.execute.specs.laws.Tabled.{name-small, looked-unset, looked-off, looked-absent, looked-found}
 use Rattle.execute.specs.declared.Did.the-variants as did
 use borrow.Author.Needs.{needs}
 use Rattle.execute.proofs.table.tblg.Statement.{statement}

@@ -3,10 +3,10 @@ use mathlib.Core.Path.{refl, sym, ap, _∙_}
 use mathlib.Core.Option.{Option}
 use native.Mathlib.Omega.{arith}
 use Rattle.sifv.specs.Value.{Value}
-use Rattle.sifv.specs.Seen.{seen, kindIn}
-use Rattle.execute.specs.View.{regsOf}
-use Rattle.execute.specs.Acts.{name-formed, name-value, reg-formed, reg-value}
-use Rattle.execute.specs.Tabled.{tabled-unset, tabled-off, tabled-none, tabled-multi}
+use Rattle.sifv.specs.inner.Seen.{seen, kindIn}
+use Rattle.execute.specs.inner.View.{regsOf}
+use Rattle.execute.specs.laws.Acts.{name-formed, name-value, reg-formed, reg-value}
+use Rattle.execute.specs.laws.Tabled.{tabled-unset, tabled-off, tabled-none, tabled-multi}
 use Rattle.execute.specs.declared.Did.the-variants as did
 use borrow.Author.Needs.{needs}
 use Rattle.execute.proofs.table.tbli.Statement.{statement}

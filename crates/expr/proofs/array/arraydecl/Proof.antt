@@ -1,6 +1,6 @@
 use borrow.Author.Needs.{needs}
 use native.Mathlib.Omega.{arith}
-use Rattle.expr.specs.ArrayLaws.{arr-room, arr-roomb, arr-lits, arr-made}
+use Rattle.expr.specs.laws.ArrayLaws.{arr-room, arr-roomb, arr-lits, arr-made}
 use Rattle.expr.proofs.Rights.{arr-asks, arr-front}
 use Rattle.expr.proofs.array.arraydecl.Statement.{statement}
 use Rattle.expr.proofs.array.arraydecl.Tie as tie

@@ -5,8 +5,8 @@ use mathlib.Core.List.{List}
 use Prim.Native.Nat.{_+_, _-_, _*_, _≤_}
 use lib.ListN.{length}
 use Rattle.ast.specs.Tree.{Lit}
-use Rattle.expr.specs.Arrays.{Lits}
-use Rattle.expr.specs.ArrayLaws.{More, more-start, more-end, next}
+use Rattle.expr.specs.inner.Arrays.{Lits}
+use Rattle.expr.specs.laws.ArrayLaws.{More, more-start, more-end, next}
 use Rattle.expr.proofs.array.arrayitems.Statement.{statement}
 use Rattle.expr.proofs.array.arrayitems.Tie as tie
 use Rattle.expr.proofs.array.arrayitems.Reads as reads

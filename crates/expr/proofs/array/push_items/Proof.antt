@@ -1,7 +1,7 @@
 use native.Mathlib.Omega.{arith}
 use mathlib.Core.Path.{sym, _∙_}
-use Rattle.emit.specs.Laws.{roomy}
-use Rattle.expr.specs.ArrayLaws.{items-refused, items-full, items-put}
+use Rattle.emit.specs.laws.Laws.{roomy}
+use Rattle.expr.specs.laws.ArrayLaws.{items-refused, items-full, items-put}
 use borrow.Author.Needs.{needs}
 use Rattle.expr.proofs.array.push_items.Statement.{statement}
 use Rattle.expr.proofs.array.push_items.Tie as tie

@@ -4,8 +4,8 @@ use borrow.Author.Needs.{needs}
 use lib.ListN.{length}
 use Rattle.ast.specs.Tree.{Expr}
 use Rattle.ast.specs.Flat.{flatExpr}
-use Rattle.emit.specs.Made.{Spells}
-use Rattle.expr.specs.AwaitsLaws.{Left, left-start, left-end, turn}
+use Rattle.emit.specs.inner.Made.{Spells}
+use Rattle.expr.specs.laws.AwaitsLaws.{Left, left-start, left-end, turn}
 use Rattle.expr.proofs.skip.skip.Statement.{statement}
 use Rattle.expr.proofs.skip.skip.Tie as tie
 use Rattle.expr.proofs.skip.skip.Reads as reads

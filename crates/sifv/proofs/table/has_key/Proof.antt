@@ -1,5 +1,5 @@
 -- `sifv::table::has_key` meets its contract. Assumes nothing.
-use Rattle.sifv.specs.Tables.{has-none, has-this}
+use Rattle.sifv.specs.laws.Tables.{has-none, has-this}
 use borrow.Author.Needs.{needs}
 use Rattle.sifv.proofs.table.has_key.Statement.{statement}
 use Rattle.sifv.proofs.table.has_key.Tie as tie

@@ -6,13 +6,13 @@ use native.Mathlib.Omega.{arith}
 use lib.ListN.{set, length-set}
 use Rattle.lent.specs.Bytes.{part, splice}
 use Rattle.sifv.specs.Slot.{decodeSlot}
-use Rattle.sifv.specs.Seen.{seen, plain, kindIn, setItem}
-use Rattle.sifv.specs.Formed.{Formed}
-use Rattle.sifv.specs.Gaps.{open-length}
-use Rattle.sifv.specs.Inserts.{low-same, new-place, new-from, new-length, new-law}
+use Rattle.sifv.specs.inner.Seen.{seen, singleSeen, kindIn, setItem}
+use Rattle.sifv.specs.laws.Gaps.{open-length}
+use Rattle.sifv.specs.laws.Inserts.{low-same, new-place, new-from, new-length, new-law}
 use borrow.Author.Needs.{needs}
 use Rattle.sifv.proofs.table.insert_new.Statement.{statement}
 use Rattle.sifv.proofs.table.insert_new.Tie as tie
+use Rattle.sifv.specs.inner.Forms.{Formed}
 
 open-entry-requires : tie.Need-open-entry-requires
 open-entry-requires c κs = (c .before .before .pre .0 .0, new-place (c .before .before .args .s .now) (c .before .before .args .at) (c .before .before .args .n) (c .before .before .args .i) (c .before .before .args .key) (c .before .before .pre .0 .0) (c .before .before .pre .0 .3) (c .before .before .pre .0 .4) (c .before .before .pre .0 .5) (c .before .before .pre .0 .6) (c .before .before .pre .1 .0), c .before .before .pre .0 .6)
@@ -47,18 +47,18 @@ add-s-3 : tie.Need-add-s-3
 add-s-3 c = search needs
 
 slice-write-s-2 : tie.Need-slice-write-s-2
-slice-write-s-2 c = omega (arith, new-length (c .before .before .before .before .before .before .before .before .before .before .before .args .s .now) (c .before .before .before .before .before .before .before .before .before .before .before .args .at) (c .before .before .before .before .before .before .before .before .before .before .before .args .n) (c .before .before .before .before .before .before .before .before .before .before .before .args .i) (c .before .before .before .before .before .before .before .before .before .before .before .args .key) (c .before .before .before .before .before .before .before .before .before .before .before .pre .0 .0) (c .before .before .before .before .before .before .before .before .before .before .before .pre .0 .3) (c .before .before .before .before .before .before .before .before .before .before .before .pre .0 .4) (c .before .before .before .before .before .before .before .before .before .before .before .pre .0 .5) (c .before .before .before .before .before .before .before .before .before .before .before .pre .0 .6) (c .before .before .before .before .before .before .before .before .before .before .before .pre .1 .0) (plain (seen (decodeSlot (part (set (c .before .before .before .before .before .before .before .before .open-entry .last .0) (c .before .before .before .before .before .before .before .before .before .before .before .args .at + (232 + c .before .before .before .before .before .before .before .before .before .before .before .args .i)) (c .before .before .before .before .before .low .result)) (c .before .before .before .before .before .before .before .before .before .before .before .args .from) 256)))) (c .before .before .before .before .before .before .before .before .open-entry .ensures) (ap (set (c .before .before .before .before .before .before .before .before .open-entry .last .0) (c .before .before .before .before .before .before .before .before .before .before .before .args .at + (232 + c .before .before .before .before .before .before .before .before .before .before .before .args .i))) (low-same (c .before .before .before .before .before .before .before .before .before .before .before .args .key) (c .before .before .before .before .before .low .ensures) (omega (arith, c .before .before .before .before .before .before .before .before .before .before .before .pre .1 .2)))) (c .before .before .before .store-item .ensures))
+slice-write-s-2 c = omega (arith, new-length (c .before .before .before .before .before .before .before .before .before .before .before .args .s .now) (c .before .before .before .before .before .before .before .before .before .before .before .args .at) (c .before .before .before .before .before .before .before .before .before .before .before .args .n) (c .before .before .before .before .before .before .before .before .before .before .before .args .i) (c .before .before .before .before .before .before .before .before .before .before .before .args .key) (c .before .before .before .before .before .before .before .before .before .before .before .pre .0 .0) (c .before .before .before .before .before .before .before .before .before .before .before .pre .0 .3) (c .before .before .before .before .before .before .before .before .before .before .before .pre .0 .4) (c .before .before .before .before .before .before .before .before .before .before .before .pre .0 .5) (c .before .before .before .before .before .before .before .before .before .before .before .pre .0 .6) (c .before .before .before .before .before .before .before .before .before .before .before .pre .1 .0) (singleSeen (seen (decodeSlot (part (set (c .before .before .before .before .before .before .before .before .open-entry .last .0) (c .before .before .before .before .before .before .before .before .before .before .before .args .at + (232 + c .before .before .before .before .before .before .before .before .before .before .before .args .i)) (c .before .before .before .before .before .low .result)) (c .before .before .before .before .before .before .before .before .before .before .before .args .from) 256)))) (c .before .before .before .before .before .before .before .before .open-entry .ensures) (ap (set (c .before .before .before .before .before .before .before .before .open-entry .last .0) (c .before .before .before .before .before .before .before .before .before .before .before .args .at + (232 + c .before .before .before .before .before .before .before .before .before .before .before .args .i))) (low-same (c .before .before .before .before .before .before .before .before .before .before .before .args .key) (c .before .before .before .before .before .low .ensures) (omega (arith, c .before .before .before .before .before .before .before .before .before .before .before .pre .1 .2)))) (c .before .before .before .store-item .ensures))
 
 same-length : tie.Need-same-length
-same-length c = length-set (c .before .before .before .store-item .last .0) (c .before .before .before .before .before .before .before .before .before .before .before .args .at + 1) (c .low2 .result) ∙ new-length (c .before .before .before .before .before .before .before .before .before .before .before .args .s .now) (c .before .before .before .before .before .before .before .before .before .before .before .args .at) (c .before .before .before .before .before .before .before .before .before .before .before .args .n) (c .before .before .before .before .before .before .before .before .before .before .before .args .i) (c .before .before .before .before .before .before .before .before .before .before .before .args .key) (c .before .before .before .before .before .before .before .before .before .before .before .pre .0 .0) (c .before .before .before .before .before .before .before .before .before .before .before .pre .0 .3) (c .before .before .before .before .before .before .before .before .before .before .before .pre .0 .4) (c .before .before .before .before .before .before .before .before .before .before .before .pre .0 .5) (c .before .before .before .before .before .before .before .before .before .before .before .pre .0 .6) (c .before .before .before .before .before .before .before .before .before .before .before .pre .1 .0) (plain (seen (decodeSlot (part (set (c .before .before .before .before .before .before .before .before .open-entry .last .0) (c .before .before .before .before .before .before .before .before .before .before .before .args .at + (232 + c .before .before .before .before .before .before .before .before .before .before .before .args .i)) (c .before .before .before .before .before .low .result)) (c .before .before .before .before .before .before .before .before .before .before .before .args .from) 256)))) (c .before .before .before .before .before .before .before .before .open-entry .ensures) (ap (set (c .before .before .before .before .before .before .before .before .open-entry .last .0) (c .before .before .before .before .before .before .before .before .before .before .before .args .at + (232 + c .before .before .before .before .before .before .before .before .before .before .before .args .i))) (low-same (c .before .before .before .before .before .before .before .before .before .before .before .args .key) (c .before .before .before .before .before .low .ensures) (omega (arith, c .before .before .before .before .before .before .before .before .before .before .before .pre .1 .2)))) (c .before .before .before .store-item .ensures)
+same-length c = length-set (c .before .before .before .store-item .last .0) (c .before .before .before .before .before .before .before .before .before .before .before .args .at + 1) (c .low2 .result) ∙ new-length (c .before .before .before .before .before .before .before .before .before .before .before .args .s .now) (c .before .before .before .before .before .before .before .before .before .before .before .args .at) (c .before .before .before .before .before .before .before .before .before .before .before .args .n) (c .before .before .before .before .before .before .before .before .before .before .before .args .i) (c .before .before .before .before .before .before .before .before .before .before .before .args .key) (c .before .before .before .before .before .before .before .before .before .before .before .pre .0 .0) (c .before .before .before .before .before .before .before .before .before .before .before .pre .0 .3) (c .before .before .before .before .before .before .before .before .before .before .before .pre .0 .4) (c .before .before .before .before .before .before .before .before .before .before .before .pre .0 .5) (c .before .before .before .before .before .before .before .before .before .before .before .pre .0 .6) (c .before .before .before .before .before .before .before .before .before .before .before .pre .1 .0) (singleSeen (seen (decodeSlot (part (set (c .before .before .before .before .before .before .before .before .open-entry .last .0) (c .before .before .before .before .before .before .before .before .before .before .before .args .at + (232 + c .before .before .before .before .before .before .before .before .before .before .before .args .i)) (c .before .before .before .before .before .low .result)) (c .before .before .before .before .before .before .before .before .before .before .before .args .from) 256)))) (c .before .before .before .before .before .before .before .before .open-entry .ensures) (ap (set (c .before .before .before .before .before .before .before .before .open-entry .last .0) (c .before .before .before .before .before .before .before .before .before .before .before .args .at + (232 + c .before .before .before .before .before .before .before .before .before .before .before .args .i))) (low-same (c .before .before .before .before .before .before .before .before .before .before .before .args .key) (c .before .before .before .before .before .low .ensures) (omega (arith, c .before .before .before .before .before .before .before .before .before .before .before .pre .1 .2)))) (c .before .before .before .store-item .ensures)
 
 returns : tie.Need-returns
 returns c =
     let s = c .before .before .before .before .before .before .before .before .before .before .before in
     let q = new-from (c .before .before .before .before .before .before .before .before .before .before .before .args .s .now) (c .before .before .before .before .before .before .before .before .before .before .before .args .at) (c .before .before .before .before .before .before .before .before .before .before .before .args .n) (c .before .before .before .before .before .before .before .before .before .before .before .args .i) (c .before .before .before .before .before .before .before .before .before .before .before .args .key) (c .before .before .before .before .before .before .before .before .before .before .before .pre .0 .0) (c .before .before .before .before .before .before .before .before .before .before .before .pre .0 .3) (c .before .before .before .before .before .before .before .before .before .before .before .pre .0 .4) (c .before .before .before .before .before .before .before .before .before .before .before .pre .0 .5) (c .before .before .before .before .before .before .before .before .before .before .before .pre .0 .6) (c .before .before .before .before .before .before .before .before .before .before .before .pre .1 .0) (s .args .from) (s .pre .0 .2) (s .pre .1 .5) (c .before .before .before .before .before .before .before .before .open-entry .ensures) (ap (set (c .before .before .before .before .before .before .before .before .open-entry .last .0) (c .before .before .before .before .before .before .before .before .before .before .before .args .at + (232 + c .before .before .before .before .before .before .before .before .before .before .before .args .i))) (low-same (c .before .before .before .before .before .before .before .before .before .before .before .args .key) (c .before .before .before .before .before .low .ensures) (omega (arith, c .before .before .before .before .before .before .before .before .before .before .before .pre .1 .2)))) in
     let e₂ = set (c .before .before .before .before .before .before .before .before .open-entry .last .0) (s .args .at + (232 + s .args .i)) (c .before .before .before .before .before .low .result) in
-    new-law (c .before .before .before .before .before .before .before .before .before .before .before .args .s .now) (c .before .before .before .before .before .before .before .before .before .before .before .args .at) (c .before .before .before .before .before .before .before .before .before .before .before .args .n) (c .before .before .before .before .before .before .before .before .before .before .before .args .i) (c .before .before .before .before .before .before .before .before .before .before .before .args .key) (c .before .before .before .before .before .before .before .before .before .before .before .pre .0 .0) (c .before .before .before .before .before .before .before .before .before .before .before .pre .0 .3) (c .before .before .before .before .before .before .before .before .before .before .before .pre .0 .4) (c .before .before .before .before .before .before .before .before .before .before .before .pre .0 .5) (c .before .before .before .before .before .before .before .before .before .before .before .pre .0 .6) (c .before .before .before .before .before .before .before .before .before .before .before .pre .1 .0) (plain (seen (decodeSlot (part (s .args .s .now) (s .args .from) 256)))) (s .pre .1 .1) (c .before .before .before .before .before .before .before .before .open-entry .ensures) (ap (set (c .before .before .before .before .before .before .before .before .open-entry .last .0) (c .before .before .before .before .before .before .before .before .before .before .before .args .at + (232 + c .before .before .before .before .before .before .before .before .before .before .before .args .i))) (low-same (c .before .before .before .before .before .before .before .before .before .before .before .args .key) (c .before .before .before .before .before .low .ensures) (omega (arith, c .before .before .before .before .before .before .before .before .before .before .before .pre .1 .2))))
-    (c .before .before .before .store-item .ensures ∙ ap (λ (r : List ℕ). splice e₂ (s .args .at) (setItem (part e₂ (s .args .at) 256) (s .args .i) (plain (seen (decodeSlot r))))) (q .0))
+    new-law (c .before .before .before .before .before .before .before .before .before .before .before .args .s .now) (c .before .before .before .before .before .before .before .before .before .before .before .args .at) (c .before .before .before .before .before .before .before .before .before .before .before .args .n) (c .before .before .before .before .before .before .before .before .before .before .before .args .i) (c .before .before .before .before .before .before .before .before .before .before .before .args .key) (c .before .before .before .before .before .before .before .before .before .before .before .pre .0 .0) (c .before .before .before .before .before .before .before .before .before .before .before .pre .0 .3) (c .before .before .before .before .before .before .before .before .before .before .before .pre .0 .4) (c .before .before .before .before .before .before .before .before .before .before .before .pre .0 .5) (c .before .before .before .before .before .before .before .before .before .before .before .pre .0 .6) (c .before .before .before .before .before .before .before .before .before .before .before .pre .1 .0) (singleSeen (seen (decodeSlot (part (s .args .s .now) (s .args .from) 256)))) (s .pre .1 .1) (c .before .before .before .before .before .before .before .before .open-entry .ensures) (ap (set (c .before .before .before .before .before .before .before .before .open-entry .last .0) (c .before .before .before .before .before .before .before .before .before .before .before .args .at + (232 + c .before .before .before .before .before .before .before .before .before .before .before .args .i))) (low-same (c .before .before .before .before .before .before .before .before .before .before .before .args .key) (c .before .before .before .before .before .low .ensures) (omega (arith, c .before .before .before .before .before .before .before .before .before .before .before .pre .1 .2))))
+    (c .before .before .before .store-item .ensures ∙ ap (λ (r : List ℕ). splice e₂ (s .args .at) (setItem (part e₂ (s .args .at) 256) (s .args .i) (singleSeen (seen (decodeSlot r))))) (q .0))
     (ap (set (c .before .before .before .store-item .last .0) (s .args .at + 1)) (low-same (s .args .n + 1) (c .low2 .ensures) (omega (arith, s .pre .0 .6))))
 
 pub insert-new-spec : {M : Type 1} → statement M

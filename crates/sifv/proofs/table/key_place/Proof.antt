@@ -4,12 +4,12 @@ use Prim.Native.Nat.{_+_, _-_, _≤_}
 use native.Mathlib.Omega.{arith}
 use lib.ListN.{drop}
 use Rattle.lent.specs.Bytes.{part}
-use Rattle.sifv.specs.Seen.{entriesIn}
-use Rattle.sifv.specs.Places.{place}
-use Rattle.sifv.specs.Tables.{place-found, place-turn, place-none}
+use Rattle.sifv.specs.inner.Seen.{entriesIn}
+use Rattle.sifv.specs.laws.Tables.{place-found, place-turn, place-none}
 use borrow.Author.Needs.{needs}
 use Rattle.sifv.proofs.table.key_place.Statement.{statement}
 use Rattle.sifv.proofs.table.key_place.Tie as tie
+use Rattle.sifv.specs.inner.Forms.{place}
 
 abbrev Inv-loop : tie.InvT-loop
 Inv-loop s at n key i₀ i = (i ≤ n) × (place (entriesIn n (part s at 256)) key ≡ i + place (drop i (entriesIn n (part s at 256))) key)

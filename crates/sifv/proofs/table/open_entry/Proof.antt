@@ -4,10 +4,11 @@ use Prim.Native.Nat.{ℕ, _+_, _-_, _≤_}
 use native.Mathlib.Omega.{arith}
 use lib.ListN.{length, length-set}
 use Rattle.lent.specs.Bytes.{part, splice}
-use Rattle.sifv.specs.Gaps.{opened, opened-none, open-length, open-turn}
+use Rattle.sifv.specs.laws.Gaps.{opened-none, open-length, open-turn}
 use borrow.Author.Needs.{needs}
 use Rattle.sifv.proofs.table.open_entry.Statement.{statement}
 use Rattle.sifv.proofs.table.open_entry.Tie as tie
+use Rattle.sifv.specs.inner.Forms.{opened}
 
 abbrev Inv-loop : tie.InvT-loop
 Inv-loop s₀ at i n j₀ s j = (i ≤ j) × (j ≤ n) × (length s ≡ length s₀) × (s ≡ splice s₀ at (opened (part s₀ at 256) j n))

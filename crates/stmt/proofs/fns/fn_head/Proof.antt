@@ -1,8 +1,8 @@
 use native.Mathlib.Omega.{arith}
 use Prim.Native.Nat.{_+_, _-_}
 use lib.ListN.{getD}
-use Rattle.stmt.specs.Fns.{regs-ready, fn-ready}
-use Rattle.stmt.specs.FnLaws.{is-a-fn, fn-room, fn-names-length, head-goes}
+use Rattle.stmt.specs.laws.Fns.{regs-ready, fn-ready}
+use Rattle.stmt.specs.laws.FnLaws.{is-a-fn, fn-room, fn-names-length, head-goes}
 use borrow.Author.Needs.{needs}
 use Rattle.stmt.proofs.fns.fn_head.Statement.{statement}
 use Rattle.stmt.proofs.fns.fn_head.Tie as tie

@@ -1,7 +1,7 @@
 use native.Mathlib.Omega.{arith}
 use mathlib.Core.Path.{ap, _∙_}
 use lib.ListN.{length}
-use Rattle.stmt.specs.Fns.{items, length-params}
+use Rattle.stmt.specs.laws.Fns.{length-params}
 use borrow.Author.Needs.{needs}
 use Rattle.stmt.proofs.fns.keep_fn.Statement.{statement}
 use Rattle.stmt.proofs.fns.keep_fn.Tie as tie

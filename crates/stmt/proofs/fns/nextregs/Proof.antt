@@ -4,13 +4,13 @@ use Prim.Native.Nat.{_-_, _≤_}
 use mathlib.Core.Path.{_≡_}
 use lib.ListN.{replicate}
 use Rattle.compiler.specs.Lower.{Reg}
-use Rattle.emit.specs.Run.{after}
-use Rattle.stmt.specs.Fns.{step-bound, regs-start, regs-turn, regs-end}
+use Rattle.emit.specs.inner.Run.{afterEvents}
+use Rattle.stmt.specs.laws.Fns.{step-bound, regs-start, regs-turn, regs-end}
 use Rattle.stmt.proofs.fns.nextregs.Statement.{statement}
 use Rattle.stmt.proofs.fns.nextregs.Tie as tie
 
 abbrev Inv-loop : tie.InvT-loop
-Inv-loop n q₀ i₀ q i = (i ≤ n) × (q .reg ≤ 96) × (after (replicate (n - i) Reg) q ≡ after (replicate n Reg) q₀)
+Inv-loop n q₀ i₀ q i = (i ≤ n) × (q .reg ≤ 96) × (afterEvents (replicate (n - i) Reg) q ≡ afterEvents (replicate n Reg) q₀)
 
 abbrev μ-loop : tie.MeasureT-loop
 μ-loop n q₀ i₀ q i = n - i

@@ -5,13 +5,14 @@ use mathlib.Core.Path.{_≡_}
 use lib.ListN.{length, drop}
 use Rattle.lent.specs.Bytes.{splice}
 use borrow.Author.Needs.{needs}
-use Rattle.stmt.specs.Fns.{items, items-start, item-length, items-turn, items-end}
+use Rattle.stmt.specs.laws.Fns.{items-start, item-length, items-turn, items-end}
 use Rattle.sifv.specs.Value.{Str}
 use Rattle.stmt.proofs.fns.param_items.Statement.{statement}
 use Rattle.stmt.proofs.fns.param_items.Tie as tie
+use Rattle.stmt.specs.inner.Parts.{paramItems}
 
 abbrev Inv-loop : tie.InvT-loop
-Inv-loop names k out₀ i₀ out i = (i ≤ length names) × (length out ≡ length out₀) × (splice out (16384 + 16 * (k + i)) (items (drop i names)) ≡ splice out₀ (16384 + 16 * k) (items names))
+Inv-loop names k out₀ i₀ out i = (i ≤ length names) × (length out ≡ length out₀) × (splice out (16384 + 16 * (k + i)) (paramItems (drop i names)) ≡ splice out₀ (16384 + 16 * k) (paramItems names))
 
 abbrev μ-loop : tie.MeasureT-loop
 μ-loop names k out₀ i₀ out i = length names - i

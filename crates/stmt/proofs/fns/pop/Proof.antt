@@ -1,7 +1,7 @@
 use mathlib.Core.Path.{refl, ap}
 use Rattle.opc.specs.Record.{fieldBytes}
 use Rattle.opc.specs.Op.{FnStackPop, Str, instr}
-use Rattle.emit.specs.Laws.{did-then, kept-did, ready-did, some-place}
+use Rattle.emit.specs.laws.Laws.{did-then, kept-did, ready-did, some-place}
 use borrow.Author.Needs.{needs}
 use Rattle.stmt.proofs.fns.pop.Statement.{statement}
 use Rattle.stmt.proofs.fns.pop.Tie as tie

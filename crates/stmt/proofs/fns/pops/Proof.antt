@@ -3,9 +3,9 @@ use mathlib.Core.Path.{refl}
 use Prim.Native.Nat.{_-_, _≤_}
 use mathlib.Core.Path.{_≡_}
 use lib.ListN.{length}
-use Rattle.emit.specs.Run.{Ready}
+use Rattle.emit.specs.inner.Run.{Ready}
 use borrow.Author.Needs.{needs}
-use Rattle.stmt.specs.Fns.{Popped, pops-start, pops-turn, pops-end, pop-ready}
+use Rattle.stmt.specs.laws.Fns.{Popped, pops-start, pops-turn, pops-end, pop-ready}
 use Rattle.stmt.proofs.fns.pops.Statement.{statement}
 use Rattle.stmt.proofs.fns.pops.Tie as tie
 

@@ -1,7 +1,7 @@
 use native.Mathlib.Omega.{arith}
 use mathlib.Core.Path.{sym, _∙_}
-use Rattle.emit.specs.Laws.{roomy}
-use Rattle.stmt.specs.Fns.{fn-refused, fn-full, fn-put}
+use Rattle.emit.specs.laws.Laws.{roomy}
+use Rattle.stmt.specs.laws.Fns.{fn-refused, fn-full, fn-put}
 use borrow.Author.Needs.{needs}
 use Rattle.stmt.proofs.fns.push_fn.Statement.{statement}
 use Rattle.stmt.proofs.fns.push_fn.Tie as tie

@@ -1,7 +1,7 @@
 use native.Mathlib.Omega.{arith}
 use mathlib.Core.Path.{_∙_}
-use Rattle.stmt.specs.Leaves.{emitted-ready, emitted-lbl, label-next}
-use Rattle.stmt.specs.Fors.{head₁, head₂, head₃, head₄, head₅}
+use Rattle.stmt.specs.laws.Leaves.{emitted-ready, emitted-lbl, label-next}
+use Rattle.stmt.specs.laws.Fors.{head₁, head₂, head₃, head₄, head₅}
 use borrow.Author.Needs.{needs}
 use Rattle.stmt.proofs.fors.for_head.Statement.{statement}
 use Rattle.stmt.proofs.fors.for_head.Tie as tie

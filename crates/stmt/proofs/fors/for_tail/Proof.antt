@@ -1,6 +1,6 @@
 use mathlib.Core.Path.{_∙_}
-use Rattle.stmt.specs.Leaves.{emitted-ready}
-use Rattle.stmt.specs.Fors.{tail₁, tail₂, tail₃, tail₄}
+use Rattle.stmt.specs.laws.Leaves.{emitted-ready}
+use Rattle.stmt.specs.laws.Fors.{tail₁, tail₂, tail₃, tail₄}
 use borrow.Author.Needs.{needs}
 use Rattle.stmt.proofs.fors.for_tail.Statement.{statement}
 use Rattle.stmt.proofs.fors.for_tail.Tie as tie

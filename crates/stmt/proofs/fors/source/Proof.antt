@@ -1,5 +1,5 @@
 use native.Mathlib.Omega.{arith}
-use Rattle.stmt.specs.Fors.{source-room, source-reads, name-goes, call-ready, call-goes}
+use Rattle.stmt.specs.laws.Fors.{source-room, source-reads, name-goes, call-ready, call-goes}
 use borrow.Author.Needs.{needs}
 use Rattle.stmt.proofs.fors.source.Statement.{statement}
 use Rattle.stmt.proofs.fors.source.Tie as tie

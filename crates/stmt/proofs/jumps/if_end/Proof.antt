@@ -1,6 +1,6 @@
 use mathlib.Core.Path.{ap}
 use Rattle.emit.specs.declared.Done.{Done}
-use Rattle.stmt.specs.Leaves.{label-first}
+use Rattle.stmt.specs.laws.Leaves.{label-first}
 use borrow.Author.Needs.{needs}
 use Rattle.stmt.proofs.jumps.if_end.Statement.{statement}
 use Rattle.stmt.proofs.jumps.if_end.Tie as tie

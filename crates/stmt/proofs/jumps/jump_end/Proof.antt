@@ -1,7 +1,7 @@
 use mathlib.Core.Path.{refl, ap}
 use Rattle.opc.specs.Record.{fieldBytes}
 use Rattle.opc.specs.Op.{Jmpa}
-use Rattle.stmt.specs.Leaves.{emit-one, label-next}
+use Rattle.stmt.specs.laws.Leaves.{emit-one, label-next}
 use borrow.Author.Needs.{needs}
 use Rattle.stmt.proofs.jumps.jump_end.Statement.{statement}
 use Rattle.stmt.proofs.jumps.jump_end.Tie as tie

@@ -2,7 +2,7 @@ use mathlib.Core.Path.{refl, ap}
 use Rattle.opc.specs.Record.{fieldBytes}
 use Rattle.opc.specs.Op.{Jmpf, JmpCnd}
 use Rattle.compiler.specs.Lower.{prev}
-use Rattle.stmt.specs.Leaves.{emit-one, label-next}
+use Rattle.stmt.specs.laws.Leaves.{emit-one, label-next}
 use borrow.Author.Needs.{needs}
 use Rattle.stmt.proofs.jumps.jump_false.Statement.{statement}
 use Rattle.stmt.proofs.jumps.jump_false.Tie as tie

@@ -1,4 +1,4 @@
-use Rattle.stmt.specs.Simple.{expr-stmt-reads, expr-stmt-goes}
+use Rattle.stmt.specs.laws.Simple.{expr-stmt-reads, expr-stmt-goes}
 use borrow.Author.Needs.{needs}
 use Rattle.stmt.proofs.simple.expr_stmt.Statement.{statement}
 use Rattle.stmt.proofs.simple.expr_stmt.Tie as tie

@@ -3,10 +3,10 @@ use mathlib.Core.Path.{refl, ap}
 use Rattle.opc.specs.Record.{fieldBytes}
 use Rattle.opc.specs.Op.{FnStackPush}
 use Rattle.compiler.specs.Lower.{prev}
-use Rattle.expr.specs.Parts.{exprs}
-use Rattle.stmt.specs.Leaves.{emit-one, emitted-ready}
-use Rattle.stmt.specs.Kinds.{goes-ready}
-use Rattle.stmt.specs.Simple.{stmt-room, result-reads, return-goes, result-pushed}
+use Rattle.expr.specs.inner.Parts.{exprs}
+use Rattle.stmt.specs.laws.Leaves.{emit-one, emitted-ready}
+use Rattle.stmt.specs.laws.Kinds.{goes-ready}
+use Rattle.stmt.specs.laws.Simple.{stmt-room, result-reads, return-goes, result-pushed}
 use borrow.Author.Needs.{needs}
 use Rattle.stmt.proofs.simple.ret.Statement.{statement}
 use Rattle.stmt.proofs.simple.ret.Tie as tie

@@ -1,5 +1,5 @@
 use native.Mathlib.Omega.{arith}
-use Rattle.stmt.specs.Simple.{stmt-room, var-room, var-goes, init-reads, init-goes}
+use Rattle.stmt.specs.laws.Simple.{stmt-room, var-room, var-goes, init-reads, init-goes}
 use borrow.Author.Needs.{needs}
 use Rattle.stmt.proofs.simple.vardecl.Statement.{statement}
 use Rattle.stmt.proofs.simple.vardecl.Tie as tie

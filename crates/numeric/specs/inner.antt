@@ -1,0 +1,4 @@
+-- Definitions that only contracts inside the engine cite.
+pub mod Fields
+pub mod Patterns
+pub mod Reciprocal

@@ -1,0 +1,5 @@
+-- Laws and lemmas, and definitions that only proofs need. A reader may skip them.
+pub mod Checks
+pub mod Marks
+pub mod Starts
+pub mod Whole

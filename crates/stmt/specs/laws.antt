@@ -1,0 +1,13 @@
+-- Laws and lemmas, and definitions that only proofs need. A reader may skip them.
+pub mod Arms
+pub mod FnLaws
+pub mod Fns
+pub mod ForLaws
+pub mod Fors
+pub mod Kinds
+pub mod Leaves
+pub mod Lists
+pub mod Patch
+pub mod Regs
+pub mod Simple
+pub mod Whole

@@ -1,0 +1,129 @@
+-- Which statement stands at a place, by its kind; and where its parts stand. Assumes nothing.
+use Prim.Native.Nat.{ℕ, _+_, _-_, _≤_}
+use mathlib.Core.Path.{_≡_, refl, sym, ap, _∙_}
+use mathlib.Core.Bool.{Bool, true, false}
+use mathlib.Core.List.{List, _∷_, _++_}
+use native.Mathlib.Omega.{arith}
+use lib.ListN.{length, drop, getD, length-append, length-drop}
+use lib.Seq.{drop-drop}
+use Rattle.ast.specs.Node.{Kind, Node, node}
+use Rattle.ast.specs.Tree.{Expr, Literal, Val, Text, Truth, Name, BinaryExpr, UnaryExpr, VarAssign, ArrayMut, FnCall, Rhs, Source}
+use Rattle.ast.specs.Tree.{Stmt, Block, IfStmt, ForStmt, Return, ReturnExpr, ExprStmt, VarDecl, VarInit, FnDecl, Stmts, Rest}
+use Rattle.ast.specs.Flat.{flatExpr, flatStmt, entryBytes, bodyBytes}
+use Rattle.compiler.specs.Lower.{Place}
+use Rattle.emit.specs.declared.Done.{Done}
+use Rattle.emit.specs.inner.Run.{Ready}
+use Rattle.emit.specs.inner.Made.{Spells, Made, Part, ReadsAt, Goes}
+use Rattle.emit.specs.laws.Laws.{some-place}
+use Rattle.emit.specs.laws.Spell.{entry-append, body-append, in-node, first-kind, fits-nodes, fits-bodies}
+use Rattle.emit.specs.laws.Places.{made-ready}
+use Rattle.stmt.specs.laws.Leaves.{byte-here, byte-at}
+
+pub data Is : ℕ → Stmt → Type 0 where
+  is-block : {b : Stmts} → Is 2 (Block b)
+  is-if : {c : Expr} {b : Stmts} {k : Rest} → Is 3 (IfStmt c b k)
+  is-for : {i v : ℕ} {s : Source} {b : Stmts} → Is 5 (ForStmt i v s b)
+  is-return : Is 6 Return
+  is-result : {e : Expr} → Is 6 (ReturnExpr e)
+  is-expr : {e : Expr} → Is 7 (ExprStmt e)
+  is-var : {x : ℕ} → Is 8 (VarDecl x)
+  is-init : {x : ℕ} {r : Rhs} → Is 8 (VarInit x r)
+  is-fn : {f : ℕ} {ps : List ℕ} {b : Stmts} → Is 9 (FnDecl f ps b)
+
+kind-of : (s : Stmt) {c b : List ℕ} → Spells (flatStmt s) c b → Is (getD c 0 0) s
+kind-of (Block k) h = rw (first-kind h) is-block
+kind-of (IfStmt t k r) h = rw (first-kind h) is-if
+kind-of (ForStmt i v s k) h = rw (first-kind h) is-for
+kind-of Return h = rw (first-kind h) is-return
+kind-of (ReturnExpr e) h = rw (first-kind h) is-result
+kind-of (ExprStmt e) h = rw (first-kind h) is-expr
+kind-of (VarDecl x) h = rw (first-kind h) is-var
+kind-of (VarInit x r) h = rw (first-kind h) is-init
+kind-of (FnDecl f ps k) h = rw (first-kind h) is-fn
+
+pub kind-here : (s : Stmt) (c b : List ℕ) (u v : ℕ) {m : ℕ} → Spells (flatStmt s) (drop u c) (drop v b) → getD c u 0 ≡ m → Is m s
+kind-here s c b u v h e = rw (byte-here c u ∙ e) at (kind-of s h)
+
+-- every kind but these is 9
+pub others : {m : ℕ} {s : Stmt} → Is m s → (m ≡ 2 → ⊥) → (m ≡ 3 → ⊥) → (m ≡ 5 → ⊥) → (m ≡ 6 → ⊥) → (m ≡ 7 → ⊥) → (m ≡ 8 → ⊥) → m ≡ 9
+others is-block p q r s t u = absurd (p refl)
+others is-if p q r s t u = absurd (q refl)
+others is-for p q r s t u = absurd (r refl)
+others is-return p q r s t u = absurd (s refl)
+others is-result p q r s t u = absurd (s refl)
+others is-expr p q r s t u = absurd (t refl)
+others is-var p q r s t u = absurd (u refl)
+others is-init p q r s t u = absurd (u refl)
+others is-fn p q r s t u = refl
+
+-- ---- a node has two bytes of entries
+
+pub stmt-size : (s : Stmt) → 2 ≤ length (entryBytes (flatStmt s))
+stmt-size (Block k) = omega arith
+stmt-size (IfStmt t k r) = omega arith
+stmt-size (ForStmt i v s k) = omega arith
+stmt-size Return = omega arith
+stmt-size (ReturnExpr e) = omega arith
+stmt-size (ExprStmt e) = omega arith
+stmt-size (VarDecl x) = omega arith
+stmt-size (VarInit x r) = omega arith
+stmt-size (FnDecl f ps k) = omega arith
+
+pub expr-size : (e : Expr) → 2 ≤ length (entryBytes (flatExpr e))
+expr-size (Literal (Val b)) = omega arith
+expr-size (Literal (Text t)) = omega arith
+expr-size (Literal (Truth true)) = omega arith
+expr-size (Literal (Truth false)) = omega arith
+expr-size (Name x) = omega arith
+expr-size (BinaryExpr t a b) = omega arith
+expr-size (UnaryExpr t a) = omega arith
+expr-size (VarAssign x r) = omega arith
+expr-size (ArrayMut x i v) = omega arith
+expr-size (FnCall f ps) = omega arith
+
+pub entries-both : (ns ms : List Node) → length (entryBytes (ns ++ ms)) ≡ length (entryBytes ns) + length (entryBytes ms)
+entries-both ns ms = ap length (entry-append ns ms) ∙ length-append (entryBytes ns) (entryBytes ms)
+
+pub bodies-both : (ns ms : List Node) → length (bodyBytes (ns ++ ms)) ≡ length (bodyBytes ns) + length (bodyBytes ms)
+bodies-both ns ms = ap length (body-append ns ms) ∙ length-append (bodyBytes ns) (bodyBytes ms)
+
+-- ---- where a node's parts stand
+
+pub in-at : {k : Kind} {n : ℕ} {d : List ℕ} {ns : List Node} (u v : ℕ) (c b : List ℕ) → Spells (node k n d ∷ ns) (drop u c) (drop v b) → Spells ns (drop (u + 2) c) (drop (v + length d) b)
+in-at {d = d} u v c b h = rw (← drop-drop 2 u c, ← drop-drop (length d) v b) (in-node h)
+
+-- the child count
+pub count-at : {k : Kind} {n : ℕ} {d : List ℕ} {ns : List Node} (u v : ℕ) (c b : List ℕ) → Spells (node k n d ∷ ns) (drop u c) (drop v b) → getD c (u + 1) 0 ≡ n
+count-at u v c b h = sym (byte-at c u 1) ∙ ap (λ (l : List ℕ). getD l 1 0) (h .nodes)
+
+-- the first two bytes of the body
+pub body-here : {k : Kind} {n x : ℕ} {d : List ℕ} {ns : List Node} (u v : ℕ) (c b : List ℕ) → Spells (node k n (x ∷ d) ∷ ns) (drop u c) (drop v b) → getD b v 0 ≡ x
+body-here u v c b h = sym (byte-here b v) ∙ ap (λ (l : List ℕ). getD l 0 0) (h .bodies)
+
+pub body-next : {k : Kind} {n x y : ℕ} {d : List ℕ} {ns : List Node} (u v : ℕ) (c b : List ℕ) → Spells (node k n (x ∷ (y ∷ d)) ∷ ns) (drop u c) (drop v b) → getD b (v + 1) 0 ≡ y
+body-next u v c b h = sym (byte-at b v 1) ∙ ap (λ (l : List ℕ). getD l 1 0) (h .bodies)
+
+-- ---- a part that is read, and what is known behind it
+
+module _ {X : Type 0} (P : Part X) {c b : List ℕ} {p : Done} {buf : List ℕ} (h : ReadsAt P c b p buf) where
+  pub reads-nodes : p .cont + length (entryBytes (P .nodes (h .tree))) ≤ length c
+  reads-nodes = omega (arith, fits-nodes (h .spelt .spells), length-drop (p .cont) c, h .cont)
+
+  pub reads-bodies : p .body + length (bodyBytes (P .nodes (h .tree))) ≤ length b
+  reads-bodies = omega (arith, fits-bodies (h .spelt .spells), length-drop (p .body) b, h .body)
+
+  module _ {k : Bool} {a : Done} {buf₁ : List ℕ} (g : Goes P c b k p buf a buf₁) where
+    pub goes-some : (w : Place) × Made (P .emits (h .tree) w (p .lbl) (p .low .reg)) (p .cont + length (entryBytes (P .nodes (h .tree)))) (p .body + length (bodyBytes (P .nodes (h .tree)))) (P .next (h .tree) (p .lbl)) (p .low) buf a buf₁
+    goes-some = let w = some-place k (p .low .decls) in (w .0, g .goes (h .tree) (h .spelt) (w .0) (w .1))
+
+    pub goes-ready : Ready (a .low) buf₁
+    goes-ready = made-ready (goes-some .1) (h .ready)
+
+    pub goes-cont : a .cont ≡ p .cont + length (entryBytes (P .nodes (h .tree)))
+    goes-cont = goes-some .1 .cont
+
+    pub goes-body : a .body ≡ p .body + length (bodyBytes (P .nodes (h .tree)))
+    goes-body = goes-some .1 .body
+
+    pub goes-lbl : a .lbl ≡ P .next (h .tree) (p .lbl)
+    goes-lbl = goes-some .1 .lbl
