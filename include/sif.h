@@ -71,7 +71,7 @@ enum {
     SIF_INVALID_DECR_TY = 24,       /* not a number to decrement */
     SIF_INVALID_JUMP = 25,          /* a label that is not there */
     SIF_REG_NO_CONTENTS = 26,       /* an empty register; detail: register */
-    SIF_TY_MISMATCH = 27,           /* an operator on a value of the wrong kind */
+    SIF_TY_MISMATCH = 27,           /* an operator, a condition or an index: a value of the wrong kind, or an empty register */
     SIF_NOT_AN_ARRAY = 28,          /* detail: text */
     SIF_INVALID_FN_SYM = 29,        /* a function that is not declared; detail: text */
     SIF_EMPTY_CALL_STACK = 30,      /* a return outside a call */
