@@ -39,10 +39,14 @@ pub fn timed(calls: usize, mut call: impl FnMut()) -> f64 {
     elapsed(|| (0..calls).for_each(|_| call())) / calls as f64
 }
 
-/// Nanoseconds of the second part; the first prepares it and is not measured.
-pub fn timed_after<T>(prepare: impl FnOnce() -> T, call: impl FnOnce(T)) -> f64 {
-    let prepared = prepare();
-    elapsed(|| call(prepared))
+/// How many calls of a whole page stand in a row, here as in pages.lua.
+const ROW: usize = 5;
+
+/// Nanoseconds of one call, as many in a row as in pages.lua, each on something prepared before;
+/// neither preparing it nor giving it back is measured.
+pub fn timed_row<T>(prepare: impl Fn() -> T, mut call: impl FnMut(&mut T)) -> f64 {
+    let mut prepared: Vec<T> = (0..ROW).map(|_| prepare()).collect();
+    elapsed(|| prepared.iter_mut().for_each(&mut call)) / ROW as f64
 }
 
 /// The best of so many rounds for each, all of them in turn in every round.

@@ -12,7 +12,7 @@ use oracle::program_bytes::Code;
 use oracle::state_bytes;
 
 use crate::engine;
-use crate::measure::{best, digits, timed, timed_after, turn, Figures, Group, Plan};
+use crate::measure::{best, digits, timed, timed_row, turn, Figures, Group, Plan};
 use crate::pages;
 
 type Run = fn(&[u8], &mut [u8], u64, &mut [u8]) -> u64;
@@ -53,9 +53,9 @@ impl Lent {
         let one = |run: Run| {
             move || {
                 let mut report = [0; calls::REPORT];
-                timed_after(
+                timed_row(
                     || self.state.clone(),
-                    |mut state| assert_eq!(run(&self.program, &mut state, steps, &mut report), 0),
+                    |state| assert_eq!(run(&self.program, state, steps, &mut report), 0),
                 ) / 1000.0
             }
         };
@@ -126,7 +126,7 @@ fn whole(
         times.push(("Lua 5.4", time));
     }
     let original = turn("original", || {
-        timed_after(|| code.machine(), |mut machine| assert!(machine.vm.run().is_ok())) / 1000.0
+        timed_row(|| code.machine(), |machine| assert!(machine.vm.run().is_ok())) / 1000.0
     });
     times.extend(best(rounds.div_ceil(2), vec![original]));
     times

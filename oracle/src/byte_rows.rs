@@ -1,5 +1,5 @@
 //! The rows of the computed tables on bytes (`Rows.antt` in proofs/ of opc, tables, vm, report, lower
-//! and calls): each is answered by the original, or by the oracle's own reader of its bytes.
+//! and boundary): each is answered by the original, or by the oracle's own reader of its bytes.
 
 use std::collections::HashMap;
 

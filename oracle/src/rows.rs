@@ -22,8 +22,8 @@ pub fn check(crates: &str) -> Result<(), String> {
     let buffers = buffers_of(&read("tables/proofs/Rows.antt")?)?;
     let states = states_of(&read("vm/proofs/Rows.antt")?)?;
     let reports = reports_of(&read("report/proofs/Rows.antt")?)?;
-    let calls =
-        calls_of(&read("lower/proofs/Rows.antt")?)? + calls_of(&read("calls/proofs/Rows.antt")?)?;
+    let calls = calls_of(&read("lower/proofs/Rows.antt")?)?
+        + calls_of(&read("boundary/proofs/Rows.antt")?)?;
     println!(
         "rows: {files} files, {programs} programs, {lowerings} lowerings, {readings} readings, \
          {records} records, {buffers} program buffers, {states} states, {reports} reports and \

@@ -1,7 +1,7 @@
 -- Answers of the pass over bytes agree with what is left of the nodes.
 -- Assumes nothing.
 use mathlib.Core.Path.{_≡_, refl, sym, ap, _∙_}
-use mathlib.Core.Bool.{Bool, true, false, _&&_}
+use mathlib.Core.Bool.{true}
 use mathlib.Core.List.{List, [], _∷_}
 use Prim.Native.Nat.{ℕ, _+_, _≤_, _<_}
 use native.Mathlib.Nat.{not-suc-le-zero, add-zero}
@@ -21,6 +21,7 @@ use Rattle.ast.specs.declared.structure.Checked.the-variants.{Taken, Bad
 use Rattle.ast.proofs.Scan.{drop-all}
 use Rattle.ast.specs.laws.Kinds.{number-kind}
 use Rattle.ast.proofs.Rooms.{First, first, sizeAt}
+use Rattle.lent.specs.laws.Truths.{and-left, and-right}
 use Rattle.lent.specs.Lists.{all}
 
 pub no-first : (b : List ℕ) → length b ≡ 0 → 0 ≡ getD b 0 0
@@ -51,25 +52,17 @@ never-left a e = let w = refused a e in let z : _≡_ {A = ℕ} 0 1 = cc in absu
 
 -- ---- the first node where the bytes fit
 
-one-more : (a b : Bool) → (a && b) ≡ true → b ≡ true
-one-more true b e = e
-one-more false b e = let z : _≡_ {A = ℕ} 0 1 = cc in absurd (omega arith)
-
-this-one : (a b : Bool) → (a && b) ≡ true → a ≡ true
-this-one true b e = refl
-this-one false b e = e
-
 pub fit-rest : {c b : List ℕ} → Fit c b → First c b → Fit (drop 2 c) (drop (sizeAt c) b)
 fit-rest {c} {b} f g =
     record {
       texts = f .texts;
       few = f .few;
       room = g .rest;
-      fields = one-more (fieldOk (f .texts) (body (kindOf (getD c 0 0))) (take (sizeAt c) b)) _ (sym (ap (all (nodeOk (f .texts))) (g .nodes)) ∙ f .fields);
+      fields = and-right (fieldOk (f .texts) (body (kindOf (getD c 0 0))) (take (sizeAt c) b)) _ (sym (ap (all (nodeOk (f .texts))) (g .nodes)) ∙ f .fields);
     }
 
 fit-field : {c b : List ℕ} (f : Fit c b) → First c b → fieldOk (f .texts) (body (kindOf (getD c 0 0))) (take (sizeAt c) b) ≡ true
-fit-field {c} {b} f g = this-one _ (all (nodeOk (f .texts)) (nodesFrom (drop 2 c) (drop (sizeAt c) b))) (sym (ap (all (nodeOk (f .texts))) (g .nodes)) ∙ f .fields)
+fit-field {c} {b} f g = and-left _ (all (nodeOk (f .texts)) (nodesFrom (drop 2 c) (drop (sizeAt c) b))) (sym (ap (all (nodeOk (f .texts))) (g .nodes)) ∙ f .fields)
 
 -- ---- keys
 
@@ -117,7 +110,7 @@ module _ {c b : List ℕ} {u v : ℕ} where
       where
         small : (t : ℕ) (l : List ℕ) → 1 ≤ length l → all (λ (y : ℕ). ltb y t) (take 1 l) ≡ true → getD l 0 0 < t
         small t [] k e = absurd (not-suc-le-zero k)
-        small t (y ∷ l) k e = ltb-true y t (this-one _ _ e)
+        small t (y ∷ l) k e = ltb-true y t (and-left _ _ e)
 
   module _ {ns : List Node} (h : Here c b (left ns) u v) where
     pub key-none : length c ≤ u → 0 ≡ keyOf ns

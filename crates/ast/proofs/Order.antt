@@ -1,7 +1,7 @@
 -- The order of the checks, and the parts of the file.
 -- Assumes nothing.
 use mathlib.Core.Path.{_≡_, refl, sym, ap, _∙_}
-use mathlib.Core.Bool.{Bool, true, false, _&&_}
+use mathlib.Core.Bool.{Bool, true, false}
 use mathlib.Core.List.{List}
 use Prim.Native.Nat.{ℕ, _+_, _*_, _≤_, _<_, _-_}
 use native.Mathlib.Omega.{arith}
@@ -16,6 +16,7 @@ use Rattle.ast.specs.File.{nodeCount, textCount, contentsSize, lengths, 
 use Rattle.ast.specs.inner.Answer.{answerOf, parsed, orElse, partsAnswer}
 use Rattle.ast.proofs.Rooms.{to-end}
 use Rattle.ast.proofs.Cuts.{part-end}
+use Rattle.lent.specs.laws.Truths.{and-left, and-right}
 use Rattle.lent.specs.Lists.{sum, all}
 
 -- one check
@@ -41,23 +42,15 @@ pub record Counts (f : List ℕ) : Type 0 where
   pub someTexts : 1 ≤ textCount f
   pub fewTexts : textCount f ≤ 64
 
-both-left : (a b : Bool) → (a && b) ≡ true → a ≡ true
-both-left true b e = refl
-both-left false b e = e
-
-both-right : (a b : Bool) → (a && b) ≡ true → b ≡ true
-both-right true b e = e
-both-right false b e = let z : _≡_ {A = ℕ} 0 1 = cc in absurd (omega arith)
-
 pub counts : (f : List ℕ) → countsOk f ≡ true → Counts f
 counts f e =
-    let n = both-left (between 1 1024 (nodeCount f)) (between 1 64 (textCount f)) e in
-    let t = both-right (between 1 1024 (nodeCount f)) (between 1 64 (textCount f)) e in
+    let n = and-left (between 1 1024 (nodeCount f)) (between 1 64 (textCount f)) e in
+    let t = and-right (between 1 1024 (nodeCount f)) (between 1 64 (textCount f)) e in
     record {
-      someNodes = leb-true 1 (nodeCount f) (both-left (leb 1 (nodeCount f)) (leb (nodeCount f) 1024) n);
-      fewNodes = leb-true (nodeCount f) 1024 (both-right (leb 1 (nodeCount f)) (leb (nodeCount f) 1024) n);
-      someTexts = leb-true 1 (textCount f) (both-left (leb 1 (textCount f)) (leb (textCount f) 64) t);
-      fewTexts = leb-true (textCount f) 64 (both-right (leb 1 (textCount f)) (leb (textCount f) 64) t);
+      someNodes = leb-true 1 (nodeCount f) (and-left (leb 1 (nodeCount f)) (leb (nodeCount f) 1024) n);
+      fewNodes = leb-true (nodeCount f) 1024 (and-right (leb 1 (nodeCount f)) (leb (nodeCount f) 1024) n);
+      someTexts = leb-true 1 (textCount f) (and-left (leb 1 (textCount f)) (leb (textCount f) 64) t);
+      fewTexts = leb-true (textCount f) 64 (and-right (leb 1 (textCount f)) (leb (textCount f) 64) t);
     }
 
 -- ---- the file

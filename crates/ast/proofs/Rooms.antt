@@ -1,7 +1,7 @@
 -- The first node of entries with room, and the nodes after it.
 -- Assumes nothing.
 use mathlib.Core.Path.{_≡_, refl, ap, _∙_}
-use mathlib.Core.Bool.{Bool, true, false, _&&_}
+use mathlib.Core.Bool.{true}
 use mathlib.Core.List.{List, [], _∷_}
 use Prim.Native.Nat.{ℕ, zero, suc, _+_, _*_, _≤_, _<_, _-_}
 use native.Mathlib.Nat.{not-suc-le-zero, add-zero, le-refl}
@@ -14,6 +14,7 @@ use Rattle.ast.specs.Node.{kindOf, body, bodySize, node}
 use Rattle.ast.specs.File.{nodesFrom, between, firsts}
 use Rattle.ast.specs.inner.Room.{Room, none, one}
 use Rattle.ast.proofs.Scan.{bodyBytes}
+use Rattle.lent.specs.laws.Truths.{and-left, and-right}
 use Rattle.lent.specs.Lists.{all}
 
 abbrev pub sizeAt : List ℕ → ℕ
@@ -62,23 +63,15 @@ pub to-end : (k : ℕ) (l : List ℕ) → take (length l - k) (drop k l) ≡ dro
 to-end k l = take-all (length l - k) (drop k l) (rw length-drop (le-refl (length l - k)))
 
 -- from the checks: kinds known, and as many bytes as the kinds ask for
-both-left : (a b : Bool) → (a && b) ≡ true → a ≡ true
-both-left true b e = refl
-both-left false b e = e
-
-both-right : (a b : Bool) → (a && b) ≡ true → b ≡ true
-both-right true b e = e
-both-right false b e = let z : _≡_ {A = ℕ} 0 1 = cc in absurd (omega arith)
-
 pub room-of : (n : ℕ) (c b : List ℕ) → length c ≡ 2 * n → all (between 1 23) (firsts c) ≡ true → bodyBytes c ≤ length b → Room c b
 room-of zero [] b l k s = none
 room-of zero (x ∷ c) b l k s = absurd (omega arith)
 room-of (suc n) [] b l k s = none
 room-of (suc n) (x ∷ []) b l k s = absurd (omega arith)
 room-of (suc n) (x ∷ (y ∷ c)) b l k s =
-    let t = both-left (between 1 23 x) (all (between 1 23) (firsts c)) k in
+    let t = and-left (between 1 23 x) (all (between 1 23) (firsts c)) k in
     let d = length-drop (bodySize (body (kindOf x))) b in
-    one {b = b} (leb-true 1 x (both-left (leb 1 x) (leb x 23) t))
-    (omega (arith, leb-true x 23 (both-right (leb 1 x) (leb x 23) t)))
+    one {b = b} (leb-true 1 x (and-left (leb 1 x) (leb x 23) t))
+    (omega (arith, leb-true x 23 (and-right (leb 1 x) (leb x 23) t)))
     (omega arith)
-    (room-of n c (drop (bodySize (body (kindOf x))) b) (omega arith) (both-right (between 1 23 x) (all (between 1 23) (firsts c)) k) (omega arith))
+    (room-of n c (drop (bodySize (body (kindOf x))) b) (omega arith) (and-right (between 1 23 x) (all (between 1 23) (firsts c)) k) (omega arith))

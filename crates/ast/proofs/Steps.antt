@@ -19,6 +19,7 @@ use Rattle.ast.specs.declared.structure.Plan.{Plan}
 use Rattle.ast.specs.laws.Kinds.{number-kind}
 use Rattle.ast.proofs.Rooms.{First, sizeAt}
 use Rattle.ast.specs.inner.Answer.{allUsedUp}
+use Rattle.ast.proofs.Keeping.{then-left, then-then}
 use Rattle.ast.proofs.Scan.{drop-all}
 use Rattle.ast.proofs.Agree.{Here, refused, fit-rest, first-here}
 use lib.Arith.{lt-of-le-ne}
@@ -50,14 +51,6 @@ pub record Reached (c b : List ℕ) (q : Checked) (allUsedUp : Remaining) (g : L
 
 pub start : {c b : List ℕ} {x : Remaining} {p : Checked} (g : List Node → Remaining) → Agrees c b x p → Reached c b p (then x g) g
 start {x = x} g a = record { so = x; agrees = a; same = refl }
-
-then-left : (y : Remaining) → then y (λ ns. left ns) ≡ y
-then-left wrong = refl
-then-left (left ns) = refl
-
-then-then : (y : Remaining) (f g : List Node → Remaining) → then (then y f) g ≡ then y (λ ns. then (f ns) g)
-then-then wrong f g = refl
-then-then (left ns) f g = refl
 
 module _ {c b : List ℕ} {q q′ : Checked} {allUsedUp : Remaining} (go : List Node → Remaining) (m : ℕ) where
   pub run-turn : 0 < m → Reached c b q allUsedUp (λ ns. times go m ns) → ((y : Remaining) → Agrees c b y q → Agrees c b (then y go) q′) → Reached c b q′ allUsedUp (λ ns. times go (m - 1) ns)

@@ -32,7 +32,7 @@ use Rattle.lower.specs.LowerCall.{over, answered}
 use Rattle.report.specs.Report.{report}
 use Rattle.report.specs.inner.Fields.{reportOf}
 use Rattle.report.specs.laws.Told.{told-report}
-use Rattle.calls.specs.Calls.{startOn, startCall, ranOut, runRefused, runOn, runCall, readCall}
+use Rattle.boundary.specs.Calls.{startOn, startCall, ranOut, runRefused, runOn, runCall, readCall}
 use Rattle.program.specs.laws.HeldLaws.{missing}
 use Rattle.calls.specs.inner.Finished.{Finished}
 use Rattle.execute.specs.inner.ProgramView.{programIn, ProgramReady}

@@ -8,7 +8,7 @@ ghost use Rattle.vm.specs.Machine as Machine;
 ghost use Rattle.execute.specs.inner.View.{Canon};
 ghost use Rattle.run.specs.inner.Runs.{stateOf};
 ghost use Rattle.lower.specs.LowerCall.{answered};
-ghost use Rattle.calls.specs.Calls.{startCall, runOn, runCall, readCall};
+ghost use Rattle.boundary.specs.Calls.{startCall, runOn, runCall, readCall};
 ghost use Rattle.calls.specs.inner.Finished.{Finished};
 ghost use Rattle.execute.specs.inner.ProgramView.{programIn, ProgramReady};
 ghost use Rattle.program.specs.inner.Held.{isSome};

@@ -12,7 +12,6 @@ use Rattle.sifv.specs.Value.{Num, Bl, Null, One, Arr, Tab}
 use Rattle.sifv.specs.Value.{Str as Text}
 use Rattle.opc.specs.Op.{BinOpKind, Add, Sub, Mul, Div, Modu, Eq, Land, Lnot, Lor, Lneg, Nneg, Jmpt, Jmpf, instr, Code}
 use Rattle.opc.specs.Op.{Binary, Unary, Ldc, Ldn, Ldas, Ldav, Upda, Stc, Stn, Str, JmpCnd, Jmpa, Incrr, Fn, Call, FnRet, FnStackPush, FnStackPop, Tbli, Nop}
-use Rattle.tables.specs.Tables.{Program}
 use Rattle.ast.specs.Tree.{BinTok, Plus, Minus, Star, Slash, Percent, EqEq, AmpAmp, PipePipe, BangEq, Bang, Negate, Lit, Val, Truth}
 use Rattle.ast.specs.Tree.{Literal, Name, BinaryExpr, UnaryExpr, VarAssign, ArrayMut, FnCall, Expression, Table, Array, ArrayAccess}
 use Rattle.ast.specs.Tree.{noExprs, moreExprs, noItems, moreItems, OverName, OverCall}

@@ -2,7 +2,7 @@
 -- instructions, and may ask for the register before register 0. The next register r and the current label n are handed down; a tree takes
 -- `…Regs` registers and opens `…Labels` labels, wherever it stands. Definitions only.
 use Prim.Native.Nat.{ℕ, zero, suc, _+_, _-_}
-use mathlib.Core.Bool.{cond}
+use mathlib.Core.Bool.{Bool, cond}
 use mathlib.Core.List.{List, [], _∷_, _++_, map}
 use lib.Dec.{leb, eqb}
 use lib.ListN.{length, replicate}
@@ -43,27 +43,29 @@ prev r = r - 1
 
 -- ---- registers that a tree takes
 
+-- an expression as `binarg` and `assign` look at it: what comes of a literal, of a name, of any other
+abbrev pub byLeaf : {A : Type 0} → (Lit → A) → (ℕ → A) → A → Expr → A
+byLeaf l x o (Literal c) = l c
+byLeaf l x o (Name y) = x y
+byLeaf l x o (BinaryExpr t a b) = o
+byLeaf l x o (UnaryExpr t a) = o
+byLeaf l x o (VarAssign y r) = o
+byLeaf l x o (ArrayMut y i v) = o
+byLeaf l x o (FnCall f ps) = o
+
+-- what comes of True and False, and of another literal
+abbrev pub byTruth : {A : Type 0} → (Bool → A) → A → Lit → A
+byTruth t o (Val b) = o
+byTruth t o (Text x) = o
+byTruth t o (Truth b) = t b
+
 -- `binarg`: what `expr` takes, but one for True and False, which `expr` leaves out
 abbrev pub argRegs : Expr → ℕ → ℕ
-argRegs (Literal (Val b)) k = k
-argRegs (Literal (Text t)) k = k
-argRegs (Literal (Truth b)) k = 1
-argRegs (Name x) k = k
-argRegs (BinaryExpr t a b) k = k
-argRegs (UnaryExpr t a) k = k
-argRegs (VarAssign x r) k = k
-argRegs (ArrayMut x i v) k = k
-argRegs (FnCall f ps) k = k
+argRegs e k = byLeaf (byTruth (λ b. 1) k) (λ x. k) k e
 
 -- `assign`: what `expr` takes, but none for a literal or a name
 abbrev pub assignRegs : Expr → ℕ → ℕ
-assignRegs (Literal l) k = 0
-assignRegs (Name x) k = 0
-assignRegs (BinaryExpr t a b) k = k
-assignRegs (UnaryExpr t a) k = k
-assignRegs (VarAssign x r) k = k
-assignRegs (ArrayMut x i v) k = k
-assignRegs (FnCall f ps) k = k
+assignRegs e k = byLeaf (λ l. 0) (λ x. 0) k e
 
 -- a literal in `expr`
 abbrev pub litRegs : Lit → ℕ
@@ -164,25 +166,13 @@ lowerLit w n (Truth b) r = []
 
 -- `binarg`: es is what `expr` gives
 abbrev pub lowerArg : Place → ℕ → Expr → ℕ → List Event → List Event
-lowerArg w n (Literal (Val b)) r es = es
-lowerArg w n (Literal (Text t)) r es = es
-lowerArg w n (Literal (Truth b)) r es = load w n (Ldc r (One (Bl b)))
-lowerArg w n (Name x) r es = es
-lowerArg w n (BinaryExpr t a b) r es = es
-lowerArg w n (UnaryExpr t a) r es = es
-lowerArg w n (VarAssign x k) r es = es
-lowerArg w n (ArrayMut x i v) r es = es
-lowerArg w n (FnCall f ps) r es = es
+lowerArg w n e r es = byLeaf (byTruth (λ b. load w n (Ldc r (One (Bl b)))) es) (λ x. es) es e
 
 -- `assign` of an expression to x: es is what `expr` gives, q the next register after it
 abbrev pub lowerAssign : Place → ℕ → ℕ → Expr → List Event → ℕ → List Event
-lowerAssign w n x (Literal l) es q = push w n (Stc (One (assigned l)) x) ∷ []
-lowerAssign w n x (Name y) es q = push w n (Stn y x) ∷ []
-lowerAssign w n x (BinaryExpr t a b) es q = es ++ (push w n (Str (prev q) x) ∷ [])
-lowerAssign w n x (UnaryExpr t a) es q = es ++ (push w n (Str (prev q) x) ∷ [])
-lowerAssign w n x (VarAssign y k) es q = es ++ (push w n (Str (prev q) x) ∷ [])
-lowerAssign w n x (ArrayMut y i v) es q = es ++ (push w n (Str (prev q) x) ∷ [])
-lowerAssign w n x (FnCall f ps) es q = es ++ (push w n (Str (prev q) x) ∷ [])
+lowerAssign w n x e es q =
+    byLeaf (λ l. push w n (Stc (One (assigned l)) x) ∷ []) (λ y. push w n (Stn y x) ∷ [])
+    (es ++ (push w n (Str (prev q) x) ∷ [])) e
 
 -- `fncallexpr`: ps are the parameters' events, k their number; q is the next register after them
 abbrev pub lowerFnCall : Place → ℕ → ℕ → List Event → ℕ → ℕ → List Event

@@ -12,7 +12,7 @@ use borrow.Author.Tests.{eq-eqb, ne-eqb, ltb-false}
 use Rattle.lent.specs.Bytes.{beValue, part}
 use Rattle.lent.specs.laws.Parts.{part-part, getD-part, part-replicate}
 use Rattle.lower.specs.LowerCall.{lowerCall}
-use Rattle.calls.specs.Calls.{RunAnswered, runRefused, runOn, runCall, readCall, startCall}
+use Rattle.boundary.specs.Calls.{RunAnswered, runRefused, runOn, runCall, readCall, startCall}
 use Rattle.tables.specs.ProgramBytes.{decodeProgram}
 use Rattle.engine.specs.CallList.{Call, Run, ReadName, Ending, endingIn, latest, AfterCalls, outcome, afterCall, callAll, fresh}
 use Rattle.engine.specs.Demand3 as claimed
@@ -125,4 +125,7 @@ call-read b at {q} {s} {last} {s'} {r} {k} {out} h z ek eo f =
     byte-zero = let y : at + 0 ≡ at = omega arith in getD-part b at 16 0 0 (omega arith) ∙ ap (λ (i : ℕ). getD b i 0) y
 
 pub lent-out : (n m : ℕ) → n ≡ min m 256 → take (n - 0) (replicate 256 0) ≡ zeros (min m 256)
-lent-out n m e = let z : n - 0 ≤ 256 = omega arith in let y : n - 0 ≡ min m 256 = omega arith in part-replicate 256 0 0 (n - 0) (omega arith) ∙ ap zeros y
+lent-out n m e =
+    let z : n - 0 ≤ 256 = omega arith in
+    let y : n - 0 ≡ min m 256 = omega arith in
+    part-replicate 256 0 0 (n - 0) (omega arith) ∙ ap zeros y

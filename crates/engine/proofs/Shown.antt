@@ -2,7 +2,7 @@
 use Prim.Native.Nat.{ℕ, zero, suc, _+_, _-_, _*_, _/_}
 use Prim.Native.String.{String, len, charAt}
 use Prim.Native.Char.{code}
-use mathlib.Core.Bool.{Bool, true, false, cond, _&&_}
+use mathlib.Core.Bool.{Bool, true, cond, _&&_}
 use mathlib.Core.List.{List, [], _∷_, _++_, map, reverse}
 use mathlib.Core.Option.{Option, none, some}
 use lib.Dec.{ltb}
@@ -12,7 +12,7 @@ use Rattle.opc.specs.Op.{Code}
 use Rattle.ast.specs.File.{readTree, Read, Refused, Tree}
 use Rattle.tables.specs.Tables.{Program}
 use Rattle.compiler.specs.Lower.{lower, Lowered, refused, lowered}
-use Rattle.vm.specs.Machine.{Machine, State, started, Ran, run}
+use Rattle.vm.specs.Machine.{State, started, Ran, run}
 use Rattle.text.specs.Text.{ascii, decimal, valueText, lineOf}
 use Rattle.text.specs.Text.{words}
 use Rattle.ops.specs.ProgramText.{indexLines}

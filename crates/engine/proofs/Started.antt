@@ -18,7 +18,7 @@ use Rattle.vm.specs.StateBytes.{stateSize}
 use Rattle.walk.specs.Walk.{walk, walkCount, walkNames, walkEnd}
 use Rattle.walk.specs.Bound.{bound}
 use Rattle.lower.specs.LowerCall.{lowerCall}
-use Rattle.calls.specs.Calls.{startCall}
+use Rattle.boundary.specs.Calls.{startCall}
 use Rattle.engine.specs.CallList.{Call, callAll, fresh}
 use Rattle.engine.specs.laws.Demand3Proof.{script-starts, demand3}
 use Rattle.lent.specs.Lists.{zeros}

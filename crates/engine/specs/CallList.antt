@@ -9,7 +9,7 @@ use lib.ListN.{getD}
 use Rattle.lent.specs.Bytes.{beValue, part}
 use Rattle.vm.specs.RuntimeErr.{stopNumber, details}
 use Rattle.vm.specs.Machine.{Answer, Done, Stopped, Spent}
-use Rattle.calls.specs.Calls.{RunAnswered, runCall, readCall}
+use Rattle.boundary.specs.Calls.{RunAnswered, runCall, readCall}
 
 -- A call with its number and the buffer lent for the answer, whatever they are, so that refused calls are among them.
 pub data Call : Type 0 where

@@ -4,7 +4,7 @@ use mathlib.Core.Path.{_≡_}
 use mathlib.Core.List.{List}
 use Rattle.ast.specs.Tree.{Stmts}
 use Rattle.lower.specs.LowerCall.{lowerCall}
-use Rattle.calls.specs.Calls.{startCall}
+use Rattle.boundary.specs.Calls.{startCall}
 use Rattle.engine.specs.CallList.{Call, AfterCalls, afterCall, callAll, fresh}
 use Rattle.engine.specs.declared.Last.{Last}
 use Rattle.engine.specs.CallBytes.{lastOf, callsIn}

@@ -9,7 +9,7 @@ use Rattle.ast.specs.Tree.{Stmts}
 use Rattle.ast.specs.Plain.{plain}
 use Rattle.ast.specs.File.{readTree, Tree}
 use Rattle.lower.specs.LowerCall.{lowerCall, over, answered}
-use Rattle.calls.specs.Calls.{startCall, runCall, readCall}
+use Rattle.boundary.specs.Calls.{startCall, runCall, readCall}
 use mathlib.Core.Option.{some}
 use lib.ListN.{length}
 use Rattle.sifv.specs.Slot.{encodeSlot}

@@ -6,7 +6,7 @@ ghost use Prim.Native.Nat.{ℕ, _+_, _*_, _≤_, _<_, min};
 ghost use lib.ListN.{length};
 ghost use Rattle.lent.specs.Bytes.{beValue, part};
 ghost use Rattle.lower.specs.LowerCall.{answered, lowerCall};
-ghost use Rattle.calls.specs.Calls.{startCall, runCall, readCall};
+ghost use Rattle.boundary.specs.Calls.{startCall, runCall, readCall};
 ghost use Rattle.engine.specs.CallList.{Call, Run, ReadName, endingIn};
 ghost use Rattle.engine.specs.CallBytes.{callOf, lastOf};
 ghost use Rattle.engine.specs.CarriedOut.{Leaves, OneCall, CarriedOut};

@@ -375,7 +375,7 @@ fn with_truth(kind: BinOpKind, x: bool, src2: usize, w: SifVal) -> Got
     }
 }
 
-// Two operands that are not two numbers.
+// Two operands that are not two numbers, for any kinds; `binop` has its own path for a yes/no in front.
 fn others(kind: BinOpKind, src1: usize, src2: usize, v: SifVal, w: SifVal) -> Got
     requires { ⌜ (kindIn v ≡ 1 → kindIn w ≡ 1 → ⊥) ⌝ }
     ensures { λ r. ⌜ ReadsSingle (Operation.full (Rule.RegNoContents src1) (bare v) (λ t. Operation.full (Rule.RegNoContents src2) (bare w) (λ u. Operation.binary (binModel kind) t u))) r ⌝ }
@@ -391,13 +391,29 @@ fn others(kind: BinOpKind, src1: usize, src2: usize, v: SifVal, w: SifVal) -> Go
     }
 }
 
+// A register beside a yes/no.
+fn beside_truth(state: &[u8], kind: BinOpKind, x: bool, src2: usize) -> Got
+    requires { ⌜ Neat (now state) × (src2 < 96) ⌝ }
+    ensures { λ r. ⌜ ReadsSingle (Operation.full (Rule.RegNoContents src2) (regsOf (now (state .entry)) src2) (λ u. Operation.binary (binModel kind) (One (Bl x)) u)) r ⌝ }
+{
+    let b = reg(src2);
+    if sifv::kind_at(state, b) != 3 {
+        return with_truth(kind, x, src2, sifv::get(state, b));
+    }
+    truths(kind, x, sifv::truth_at(state, b))
+}
+
 fn binop(state: &[u8], kind: BinOpKind, src1: usize, src2: usize) -> Got
     requires { ⌜ Neat (now state) × (src1 < 96) × (src2 < 96) ⌝ }
     ensures { λ r. ⌜ ReadsSingle (Operation.full (Rule.RegNoContents src1) (regsOf (now (state .entry)) src1) (λ t. Operation.full (Rule.RegNoContents src2) (regsOf (now (state .entry)) src2) (λ u. Operation.binary (binModel kind) t u))) r ⌝ }
 {
     let a = reg(src1);
     let b = reg(src2);
-    if sifv::kind_at(state, a) != 1 {
+    let k = sifv::kind_at(state, a);
+    if k == 3 {
+        return beside_truth(state, kind, sifv::truth_at(state, a), src2);
+    }
+    if k != 1 {
         return others(kind, src1, src2, sifv::get(state, a), sifv::get(state, b));
     }
     if sifv::kind_at(state, b) != 1 {

@@ -6,7 +6,7 @@ use mathlib.Core.List.{List, [], _∷_, _++_, append-assoc}
 use native.Mathlib.Omega.{arith}
 use mir.Facts.{and-yes}
 use lib.Dec.{eqb, ltb, ltb→lt}
-use lib.ListN.{length, length-append, length-drop, drop, getD}
+use lib.ListN.{length, length-drop, drop, getD}
 use Rattle.lent.specs.Bytes.{beValue, part}
 use Rattle.lent.specs.laws.Numbers.{beValue-beBytes}
 use Rattle.sifv.specs.Value.{One, Bl}
@@ -14,9 +14,9 @@ use Rattle.opc.specs.Op.{Op, Ldc, Binary, Unary, Upda, Call, FnStackPush, FnSta
 use Rattle.opc.specs.Record.{Fields, fields, fieldBytes, binNumber, unNumber}
 use Rattle.ast.specs.Node.{Kind, Node, node}
 use Rattle.ast.specs.Tree.{BinTok, Plus, Minus, Star, Slash, Percent, EqEq, LtEq, Lt, GtEq, Gt, AmpAmp, PipePipe, BangEq, UnTok, Bang, Negate}
-use Rattle.ast.specs.Tree.{Val, Text, Truth, Expr, Literal, Name, BinaryExpr, UnaryExpr, VarAssign, ArrayMut, FnCall, Rhs, Exprs, noExprs, moreExprs}
+use Rattle.ast.specs.Tree.{Val, Text, Expr, Literal, Name, BinaryExpr, UnaryExpr, VarAssign, ArrayMut, FnCall, Rhs, Exprs, noExprs, moreExprs}
 use Rattle.ast.specs.Flat as Flat
-use Rattle.ast.specs.Flat.{flatExpr, flatExprs, flatRhs, exprCount, entryBytes, bodyBytes}
+use Rattle.ast.specs.Flat.{flatExpr, flatExprs, exprCount, entryBytes, bodyBytes}
 use Rattle.ast.specs.Limits.{everyExpr, everyExprs}
 use Rattle.compiler.specs.Literals.{binKind, unKind}
 use Rattle.compiler.specs.Lower.{Place, Event, Below, askBelow, prev, push, load, argRegs, exprRegs, paramRegs, lowerArg, lowerExpr, lowerParams, lowerRhs}
@@ -26,7 +26,7 @@ use Rattle.emit.specs.declared.Done.{Done}
 use Rattle.emit.specs.inner.Run.{kept, afterEvents, wrote, Ready, Did, PushesOp, Loads}
 use Rattle.emit.specs.inner.Made.{Spells, Made, binCode, Part, At, Reads, Front, ReadsAt, Goes}
 use Rattle.emit.specs.laws.Laws.{did-if, refused-stays, some-place}
-use Rattle.emit.specs.laws.Spell.{entry-append, body-append, from, in-node, fits-nodes, fits-bodies, first, second-from, first-body}
+use Rattle.emit.specs.laws.Spell.{entries-both, bodies-both, expr-size, from, in-node, fits-nodes, fits-bodies, first, second-from, first-body}
 use Rattle.emit.specs.laws.Regs.{regs-append, before-regs, arg-regs, expr-regs, param-regs}
 use Rattle.emit.specs.laws.Places.{made-as, made-start, made-ready, made-reg, made-push, made-load, made-reads, made-goes, goes-unrefused, at-from, reads-from, at-within}
 use Rattle.expr.specs.inner.Parts.{exprs, args, operands, storedParts, rights, paramParts}
@@ -73,13 +73,6 @@ Makes P t k n s buf d buf′ =
 pub first-count : {k : Kind} {n : ℕ} {d : List ℕ} {ns : List Node} {c b : List ℕ} → Spells (node k n d ∷ ns) c b → getD c 1 0 ≡ n
 first-count h = ap (λ (l : List ℕ). getD l 1 0) (h .nodes)
 
--- the bytes of two lists of nodes
-pub both-nodes : (ns ms : List Node) → length (entryBytes (ns ++ ms)) ≡ length (entryBytes ns) + length (entryBytes ms)
-both-nodes ns ms = ap length (entry-append ns ms) ∙ length-append (entryBytes ns) (entryBytes ms)
-
-pub both-bodies : (ns ms : List Node) → length (bodyBytes (ns ++ ms)) ≡ length (bodyBytes ns) + length (bodyBytes ms)
-both-bodies ns ms = ap length (body-append ns ms) ∙ length-append (bodyBytes ns) (bodyBytes ms)
-
 -- ---- the parts of an expression are the same where only its events differ
 
 pub as-operand : {e : Expr} {c b : List ℕ} → At exprs e c b → At operands e c b
@@ -112,6 +105,29 @@ module _ {X : Type 0} (P : Part X) (t : X) (u v : ℕ) (c b : List ℕ) (a : At 
     pub child-ready : Ready (r₁ .low) buf₁
     child-ready = let w = some-place k (s .decls) in made-ready (child-made (w .0) (w .1)) rdy
 
+-- ---- a node with a body of one byte, then one child
+
+pub record Child {X : Type 0} (P : Part X) (c b : List ℕ) : Type 0 where
+  pub cont : 2 ≤ length c
+  pub body : 1 ≤ length b
+  pub tree : X
+  pub child : At P tree (drop 2 c) (drop 1 b)
+
+abbrev pub one-of : {X : Type 0} (P : Part X) (t : X) {k : Kind} {n x : ℕ} {c b : List ℕ} → Spells (node k n (x ∷ []) ∷ P .nodes t) c b → P .ok t → Child P c b
+one-of P t h o = record { cont = omega (arith, fits-nodes h); body = omega (arith, fits-bodies h); tree = t; child = record { spells = in-node h; ok = o } }
+
+module _ {X : Type 0} {P : Part X} {c b : List ℕ} (o : Child P c b) {n : ℕ} {s : Low} {buf : List ℕ} (rdy : Ready s buf) {p₀ : Done} (e₀ : p₀ ≡ record { cont = 2; body = 1; lbl = n; low = s }) where
+  pub one-reads : ReadsAt P c b p₀ buf
+  one-reads = child-reads P (o .tree) 2 1 c b (o .child) (o .cont) (o .body) rdy e₀
+
+  module _ {k : Bool} {r₁ : Done} {buf₁ : List ℕ} (g : Goes P c b k p₀ buf r₁ buf₁) where
+    pub one-made : (w : Place) → k ≡ kept (s .decls) (w .section)
+        → Made (P .emits (o .tree) w n (s .reg)) (2 + length (entryBytes (P .nodes (o .tree)))) (1 + length (bodyBytes (P .nodes (o .tree)))) (P .next (o .tree) n) s buf r₁ buf₁
+    one-made = child-made P (o .tree) 2 1 c b (o .child) (o .cont) (o .body) rdy e₀ g
+
+    pub one-ready : Ready (r₁ .low) buf₁
+    one-ready = child-ready P (o .tree) 2 1 c b (o .child) (o .cont) (o .body) rdy e₀ g
+
 -- ---- Unary
 
 arg-takes : (e : Expr) (w : Place) (n r : ℕ) → r + argRegs e (exprRegs e) ≡ r + regsIn (operands .emits e w n r)
@@ -120,42 +136,30 @@ arg-takes e w n r =
     omega (arith, regs-append (lowerArg w n e r (lowerExpr e w n r)) (askBelow q), before-regs q, arg-regs e w n r (expr-regs e w n r))
 
 module _ {t : UnTok} {x : Expr} {c b : List ℕ} (h : At exprs (UnaryExpr t x) c b) where
-  pub un-room : 2 + E x ≤ length c
-  un-room = omega (arith, fits-nodes (h .spells))
+  abbrev un-one : Child operands c b
+  un-one = one-of operands x (h .spells) (h .ok)
 
-  pub un-roomb : 1 + B x ≤ length b
-  un-roomb = omega (arith, fits-bodies (h .spells))
-
-  un-child : At operands x (drop 2 c) (drop 1 b)
-  un-child = record { spells = in-node (h .spells); ok = h .ok }
-
-  module _ {n : ℕ} {s : Low} {buf : List ℕ} (rdy : Ready s buf) {p₀ : Done} (e₀ : p₀ ≡ record { cont = 2; body = 1; lbl = n; low = s }) where
-    pub un-reads : ReadsAt operands c b p₀ buf
-    un-reads = child-reads operands x 2 1 c b un-child (omega (arith, un-room)) (omega (arith, un-roomb)) rdy e₀
-
-    module _ {k : Bool} {r₁ : Done} {buf₁ : List ℕ} (g : Goes operands c b k p₀ buf r₁ buf₁) where
-      pub un-ready : Ready (r₁ .low) buf₁
-      un-ready = child-ready operands x 2 1 c b un-child (omega (arith, un-room)) (omega (arith, un-roomb)) rdy e₀ g
-
-      pub un-made : {f : Fields} {r₂ : Done} {buf₂ : List ℕ} → f ≡ fields n 2 (getD b 0 0) (prev (r₁ .low .reg)) (r₁ .low .reg) 0 0 0
-          → (r₂ .cont ≡ r₁ .cont) × (r₂ .body ≡ r₁ .body) × (r₂ .lbl ≡ r₁ .lbl) × Loads k (r₁ .low) (fieldBytes f) buf₁ (r₂ .low) buf₂ → Makes exprs (UnaryExpr t x) k n s buf r₂ buf₂
-      un-made ef l w kw =
-          let m = child-made operands x 2 1 c b un-child (omega (arith, un-room)) (omega (arith, un-roomb)) rdy e₀ g w kw in
-          let q = s .reg + argRegs x (exprRegs x) in
-          let A = lowerArg w n x (s .reg) (lowerExpr x w n (s .reg)) in
-          let o : ℕ → Op = λ z. Unary (unKind t) (prev z) z in
-          let m₂ = made-load m w kw (instr n (o (r₁ .low .reg))) (instr n (o q)) l refl (ap fieldBytes (rw (first-body (h .spells), un-number t) at ef))
-          (λ z. ap (λ (i : ℕ). instr n (o i)) (made-reg m q (arg-takes x w n (s .reg)) z)) in
-          made-as (append-assoc A (askBelow q) (load w n (o q))) (omega arith) (omega arith) refl m₂
+  module _ {n : ℕ} {s : Low} {buf : List ℕ} (rdy : Ready s buf) {p₀ : Done} (e₀ : p₀ ≡ record { cont = 2; body = 1; lbl = n; low = s })
+      {k : Bool} {r₁ : Done} {buf₁ : List ℕ} (g : Goes operands c b k p₀ buf r₁ buf₁) where
+    pub un-made : {f : Fields} {r₂ : Done} {buf₂ : List ℕ} → f ≡ fields n 2 (getD b 0 0) (prev (r₁ .low .reg)) (r₁ .low .reg) 0 0 0
+        → (r₂ .cont ≡ r₁ .cont) × (r₂ .body ≡ r₁ .body) × (r₂ .lbl ≡ r₁ .lbl) × Loads k (r₁ .low) (fieldBytes f) buf₁ (r₂ .low) buf₂ → Makes exprs (UnaryExpr t x) k n s buf r₂ buf₂
+    un-made ef l w kw =
+        let m = one-made un-one rdy e₀ g w kw in
+        let q = s .reg + argRegs x (exprRegs x) in
+        let A = lowerArg w n x (s .reg) (lowerExpr x w n (s .reg)) in
+        let o : ℕ → Op = λ z. Unary (unKind t) (prev z) z in
+        let m₂ = made-load m w kw (instr n (o (r₁ .low .reg))) (instr n (o q)) l refl (ap fieldBytes (rw (first-body (h .spells), un-number t) at ef))
+        (λ z. ap (λ (i : ℕ). instr n (o i)) (made-reg m q (arg-takes x w n (s .reg)) z)) in
+        made-as (append-assoc A (askBelow q) (load w n (o q))) (omega arith) (omega arith) refl m₂
 
 -- ---- Binary
 
 module _ {t : BinTok} {x y : Expr} {c b : List ℕ} (h : At exprs (BinaryExpr t x y) c b) where
   pub bin-room : 2 + (E x + E y) ≤ length c
-  bin-room = omega (arith, fits-nodes (h .spells), both-nodes (flatExpr x) (flatExpr y))
+  bin-room = omega (arith, fits-nodes (h .spells), entries-both (flatExpr x) (flatExpr y))
 
   pub bin-roomb : 1 + (B x + B y) ≤ length b
-  bin-roomb = omega (arith, fits-bodies (h .spells), both-bodies (flatExpr x) (flatExpr y))
+  bin-roomb = omega (arith, fits-bodies (h .spells), bodies-both (flatExpr x) (flatExpr y))
 
   bin-left : At operands x (drop 2 c) (drop 1 b)
   bin-left = record { spells = first (flatExpr x) (flatExpr y) (in-node (h .spells)); ok = and-yes (fit x) (fit y) (h .ok) .0 }
@@ -203,7 +207,7 @@ module _ {t : BinTok} {x y : Expr} {c b : List ℕ} (h : At exprs (BinaryExpr t 
             made-as
             (append-assoc (A ++ askBelow q) (C ++ askBelow p) (load w n (o q p)) ∙ append-assoc A (askBelow q) ((C ++ askBelow p) ++ load w n (o q p))
             ∙ ap (λ (l : List Event). A ++ (askBelow q ++ l)) (append-assoc C (askBelow p) (load w n (o q p))))
-            (omega (arith, both-nodes (flatExpr x) (flatExpr y))) (omega (arith, both-bodies (flatExpr x) (flatExpr y))) refl m₃
+            (omega (arith, entries-both (flatExpr x) (flatExpr y))) (omega (arith, bodies-both (flatExpr x) (flatExpr y))) refl m₃
 
 -- ---- the register before
 
@@ -243,10 +247,10 @@ operand-within c b p h f =
 
 module _ {x : ℕ} {i v : Expr} {c b : List ℕ} (h : At exprs (ArrayMut x i v) c b) where
   pub mut-room : 2 + (E i + E v) ≤ length c
-  mut-room = omega (arith, fits-nodes (h .spells), both-nodes (flatExpr i) (flatExpr v))
+  mut-room = omega (arith, fits-nodes (h .spells), entries-both (flatExpr i) (flatExpr v))
 
   pub mut-roomb : 1 + (B i + B v) ≤ length b
-  mut-roomb = omega (arith, fits-bodies (h .spells), both-bodies (flatExpr i) (flatExpr v))
+  mut-roomb = omega (arith, fits-bodies (h .spells), bodies-both (flatExpr i) (flatExpr v))
 
   mut-index : At exprs i (drop 2 c) (drop 1 b)
   mut-index = record { spells = first (flatExpr i) (flatExpr v) (in-node (h .spells)); ok = and-yes (fit i) (fit v) (h .ok) .0 }
@@ -310,8 +314,8 @@ module _ {x : ℕ} {i v : Expr} {c b : List ℕ} (h : At exprs (ArrayMut x i v) 
               made-push m₃ w kw (instr n (o (r₃ .low .reg) (r₁ .low .reg))) (instr n (o p q)) (refl, refl, refl, l) refl (ap fieldBytes (rw (first-body (h .spells)) at ef))
               (λ z. rw (is-p z, is-q z)) in
               rw ed (record {
-                cont = m₁ .cont ∙ omega (arith, both-nodes (flatExpr i) (flatExpr v));
-                body = m₁ .body ∙ omega (arith, both-bodies (flatExpr i) (flatExpr v));
+                cont = m₁ .cont ∙ omega (arith, entries-both (flatExpr i) (flatExpr v));
+                body = m₁ .body ∙ omega (arith, bodies-both (flatExpr i) (flatExpr v));
                 lbl = m₁ .lbl;
                 did = made-as {u = 2 + E i} {v = 1 + B i} {l = n}
                     (append-assoc (Z ++ askBelow q) I (push w n (o p q) ∷ []) ∙ append-assoc Z (askBelow q) (I ++ (push w n (o p q) ∷ []))) refl refl refl m₄ .did;
@@ -321,19 +325,6 @@ module _ {x : ℕ} {i v : Expr} {c b : List ℕ} (h : At exprs (ArrayMut x i v) 
               below-unrefused d z = refused-stays (askBelow (d .low .reg)) (d .low) z
 
 -- ---- Call
-
--- an expression has at least one node
-pub expr-size : (e : Expr) → 2 ≤ E e
-expr-size (Literal (Val x)) = omega arith
-expr-size (Literal (Text t)) = omega arith
-expr-size (Literal (Truth true)) = omega arith
-expr-size (Literal (Truth false)) = omega arith
-expr-size (Name x) = omega arith
-expr-size (BinaryExpr t x y) = omega arith
-expr-size (UnaryExpr t x) = omega arith
-expr-size (VarAssign x r) = omega arith
-expr-size (ArrayMut x i v) = omega arith
-expr-size (FnCall f ps) = omega arith
 
 first-is-none : {m : ℕ} (ps : Exprs) → m ≡ exprCount ps → m ≡ 0 → ps ≡ noExprs
 first-is-none noExprs e z = refl
@@ -411,69 +402,47 @@ module _ {m : ℕ} {c b : List ℕ} {k : Bool} {p : Done} {buf : List ℕ} {r₁
           let X = lowerExpr e w (p .lbl) (p .low .reg) in
           let o = push w (p .lbl) (FnStackPush (prev q)) ∷ [] in
           made-as (append-assoc X o (lowerParams ps w (p .lbl) q))
-          (omega (arith, both-nodes (flatExpr e) (flatExprs ps))) (omega (arith, both-bodies (flatExpr e) (flatExprs ps))) refl
+          (omega (arith, entries-both (flatExpr e) (flatExprs ps))) (omega (arith, bodies-both (flatExpr e) (flatExprs ps))) refl
           (made-goes (par-made₂ a w kw) (paramParts j) ps c b (par-rest (p .cont) (p .body) c b a z) g w kw q (par-q a w kw ∙ omega (arith, regs-append X o)))
 
 module _ {g : ℕ} {ps : Exprs} {c b : List ℕ} (h : At exprs (FnCall g ps) c b) where
-  pub call-room : 2 + length (entryBytes (flatExprs ps)) ≤ length c
-  call-room = omega (arith, fits-nodes (h .spells))
+  abbrev pub call-one : Child (paramParts (getD c 1 0)) c b
+  call-one = one-of (paramParts (getD c 1 0)) ps (h .spells) (first-count (h .spells), h .ok)
 
-  pub call-roomb : 1 + length (bodyBytes (flatExprs ps)) ≤ length b
-  call-roomb = omega (arith, fits-bodies (h .spells))
+  module _ {n : ℕ} {s : Low} {buf : List ℕ} (rdy : Ready s buf) {p₀ : Done} (e₀ : p₀ ≡ record { cont = 2; body = 1; lbl = n; low = s })
+      {k : Bool} {r₁ : Done} {buf₁ : List ℕ} (a : Goes (paramParts (getD c 1 0)) c b k p₀ buf r₁ buf₁) where
+    module _ {f : Fields} {word : ℕ} (ew : word ≡ getD c 1 0) (ef : f ≡ fields n 17 0 (getD b 0 0) 0 0 0 word) {r₂ : Done} {buf₂ : List ℕ}
+        (l : (r₂ .cont ≡ r₁ .cont) × (r₂ .body ≡ r₁ .body) × (r₂ .lbl ≡ r₁ .lbl) × PushesOp k (r₁ .low) (fieldBytes f) buf₁ (r₂ .low) buf₂) where
+      call-made₂ : (w : Place) → k ≡ kept (s .decls) (w .section)
+          → Made (lowerParams ps w n (s .reg) ++ (push w n (Call g (exprCount ps)) ∷ [])) (2 + length (entryBytes (flatExprs ps))) (1 + length (bodyBytes (flatExprs ps))) n s buf r₂ buf₂
+      call-made₂ w kw =
+          made-push (one-made call-one rdy e₀ a w kw) w kw
+          (instr n (Call g (exprCount ps))) (instr n (Call g (exprCount ps))) l refl (ap fieldBytes (rw (first-body (h .spells), ew ∙ first-count (h .spells)) at ef)) (λ z. refl)
 
-  call-child : At (paramParts (getD c 1 0)) ps (drop 2 c) (drop 1 b)
-  call-child = record { spells = in-node (h .spells); ok = (first-count (h .spells), h .ok) }
+      pub call-ready₂ : Ready (r₂ .low) buf₂
+      call-ready₂ = let w = some-place k (s .decls) in made-ready (call-made₂ (w .0) (w .1)) rdy
 
-  module _ {n : ℕ} {s : Low} {buf : List ℕ} (rdy : Ready s buf) {p₀ : Done} (e₀ : p₀ ≡ record { cont = 2; body = 1; lbl = n; low = s }) where
-    pub call-reads : ReadsAt (paramParts (getD c 1 0)) c b p₀ buf
-    call-reads = child-reads (paramParts (getD c 1 0)) ps 2 1 c b call-child (omega (arith, call-room)) (omega (arith, call-roomb)) rdy e₀
-
-    module _ {k : Bool} {r₁ : Done} {buf₁ : List ℕ} (a : Goes (paramParts (getD c 1 0)) c b k p₀ buf r₁ buf₁) where
-      pub call-ready₁ : Ready (r₁ .low) buf₁
-      call-ready₁ = child-ready (paramParts (getD c 1 0)) ps 2 1 c b call-child (omega (arith, call-room)) (omega (arith, call-roomb)) rdy e₀ a
-
-      module _ {f : Fields} {word : ℕ} (ew : word ≡ getD c 1 0) (ef : f ≡ fields n 17 0 (getD b 0 0) 0 0 0 word) {r₂ : Done} {buf₂ : List ℕ}
-          (l : (r₂ .cont ≡ r₁ .cont) × (r₂ .body ≡ r₁ .body) × (r₂ .lbl ≡ r₁ .lbl) × PushesOp k (r₁ .low) (fieldBytes f) buf₁ (r₂ .low) buf₂) where
-        call-made₂ : (w : Place) → k ≡ kept (s .decls) (w .section)
-            → Made (lowerParams ps w n (s .reg) ++ (push w n (Call g (exprCount ps)) ∷ [])) (2 + length (entryBytes (flatExprs ps))) (1 + length (bodyBytes (flatExprs ps))) n s buf r₂ buf₂
-        call-made₂ w kw =
-            made-push (child-made (paramParts (getD c 1 0)) ps 2 1 c b call-child (omega (arith, call-room)) (omega (arith, call-roomb)) rdy e₀ a w kw) w kw
-            (instr n (Call g (exprCount ps))) (instr n (Call g (exprCount ps))) l refl (ap fieldBytes (rw (first-body (h .spells), ew ∙ first-count (h .spells)) at ef)) (λ z. refl)
-
-        pub call-ready₂ : Ready (r₂ .low) buf₂
-        call-ready₂ = let w = some-place k (s .decls) in made-ready (call-made₂ (w .0) (w .1)) rdy
-
-        pub call-made : {j : Fields} {r₃ : Done} {buf₃ : List ℕ} → j ≡ fields n 20 0 (r₂ .low .reg) 0 0 0 0
-            → (r₃ .cont ≡ r₂ .cont) × (r₃ .body ≡ r₂ .body) × (r₃ .lbl ≡ r₂ .lbl) × Loads k (r₂ .low) (fieldBytes j) buf₂ (r₃ .low) buf₃ → Makes exprs (FnCall g ps) k n s buf r₃ buf₃
-        call-made ej o w kw =
-            let m = call-made₂ w kw in
-            let q = s .reg + paramRegs ps in
-            let X = lowerParams ps w n (s .reg) in
-            let call = push w n (Call g (exprCount ps)) ∷ [] in
-            made-as (append-assoc X call (load w n (FnStackPop q))) (omega arith) (omega arith) refl
-            (made-load m w kw (instr n (FnStackPop (r₂ .low .reg))) (instr n (FnStackPop q)) o refl (ap fieldBytes ej)
-            (λ z. ap (λ (i : ℕ). instr n (FnStackPop i)) (made-reg m q (omega (arith, regs-append X call, param-regs ps w n (s .reg))) z)))
+      pub call-made : {j : Fields} {r₃ : Done} {buf₃ : List ℕ} → j ≡ fields n 20 0 (r₂ .low .reg) 0 0 0 0
+          → (r₃ .cont ≡ r₂ .cont) × (r₃ .body ≡ r₂ .body) × (r₃ .lbl ≡ r₂ .lbl) × Loads k (r₂ .low) (fieldBytes j) buf₂ (r₃ .low) buf₃ → Makes exprs (FnCall g ps) k n s buf r₃ buf₃
+      call-made ej o w kw =
+          let m = call-made₂ w kw in
+          let q = s .reg + paramRegs ps in
+          let X = lowerParams ps w n (s .reg) in
+          let call = push w n (Call g (exprCount ps)) ∷ [] in
+          made-as (append-assoc X call (load w n (FnStackPop q))) (omega arith) (omega arith) refl
+          (made-load m w kw (instr n (FnStackPop (r₂ .low .reg))) (instr n (FnStackPop q)) o refl (ap fieldBytes ej)
+          (λ z. ap (λ (i : ℕ). instr n (FnStackPop i)) (made-reg m q (omega (arith, regs-append X call, param-regs ps w n (s .reg))) z)))
 
 -- ---- Assign
 
 module _ {x : ℕ} {r : Rhs} {c b : List ℕ} (h : At exprs (VarAssign x r) c b) where
-  pub asg-room : 2 + length (entryBytes (flatRhs r)) ≤ length c
-  asg-room = omega (arith, fits-nodes (h .spells))
-
-  pub asg-roomb : 1 + length (bodyBytes (flatRhs r)) ≤ length b
-  asg-roomb = omega (arith, fits-bodies (h .spells))
-
-  asg-child : (y : ℕ) → At (rights y) r (drop 2 c) (drop 1 b)
-  asg-child y = record { spells = in-node (h .spells); ok = h .ok }
+  abbrev asg-one : (y : ℕ) → Child (rights y) c b
+  asg-one y = one-of (rights y) r (h .spells) (h .ok)
 
   module _ {n : ℕ} {s : Low} {buf : List ℕ} (rdy : Ready s buf) {p₀ : Done} (e₀ : p₀ ≡ record { cont = 2; body = 1; lbl = n; low = s }) where
-    pub asg-reads : (y : ℕ) → ReadsAt (rights y) c b p₀ buf
-    asg-reads y = child-reads (rights y) r 2 1 c b (asg-child y) (omega (arith, asg-room)) (omega (arith, asg-roomb)) rdy e₀
-
     pub asg-made : {k : Bool} {d : Done} {buf′ : List ℕ} → Goes (rights (getD b 0 0)) c b k p₀ buf d buf′ → Makes exprs (VarAssign x r) k n s buf d buf′
     asg-made g w kw =
-        let y = getD b 0 0 in
-        let m = child-made (rights y) r 2 1 c b (asg-child y) (omega (arith, asg-room)) (omega (arith, asg-roomb)) rdy e₀ g w kw in
+        let m = one-made (asg-one (getD b 0 0)) rdy e₀ g w kw in
         made-as (ap (λ (i : ℕ). lowerRhs r i w n (s .reg)) (first-body (h .spells))) (omega arith) (omega arith) refl m
 
 -- ---- which kind it is
@@ -481,21 +450,6 @@ module _ {x : ℕ} {r : Rhs} {c b : List ℕ} (h : At exprs (VarAssign x r) c b)
 module _ {c b : List ℕ} {s : Low} {buf : List ℕ} (r : Reads exprs c b s buf) where
   pub reads-room : 2 ≤ length c
   reads-room = expr-room (r .tree) (r .spelt .spells)
-
-  pub mut-asks : getD c 0 0 ≡ 14 → (x : ℕ) × (i : Expr) × (v : Expr) × At exprs (ArrayMut x i v) c b
-  mut-asks q = only-mut (λ e. At exprs e c b → (x : ℕ) × (i : Expr) × (v : Expr) × At exprs (ArrayMut x i v) c b) (λ x i v h. (x, i, v, h)) (as-kind (r .spelt) q) (r .spelt)
-
-  pub call-asks : getD c 0 0 ≡ 15 → (g : ℕ) × (ps : Exprs) × At exprs (FnCall g ps) c b
-  call-asks q = only-call (λ e. At exprs e c b → (g : ℕ) × (ps : Exprs) × At exprs (FnCall g ps) c b) (λ g ps h. (g, ps, h)) (as-kind (r .spelt) q) (r .spelt)
-
-  pub asg-asks : getD c 0 0 ≡ 16 → (x : ℕ) × (k : Rhs) × At exprs (VarAssign x k) c b
-  asg-asks q = only-asg (λ e. At exprs e c b → (x : ℕ) × (k : Rhs) × At exprs (VarAssign x k) c b) (λ x k h. (x, k, h)) (as-kind (r .spelt) q) (r .spelt)
-
-  pub bin-asks : getD c 0 0 ≡ 17 → (t : BinTok) × (x : Expr) × (y : Expr) × At exprs (BinaryExpr t x y) c b
-  bin-asks q = only-bin (λ e. At exprs e c b → (t : BinTok) × (x : Expr) × (y : Expr) × At exprs (BinaryExpr t x y) c b) (λ t x y h. (t, x, y, h)) (as-kind (r .spelt) q) (r .spelt)
-
-  pub un-asks : getD c 0 0 ≡ 18 → (t : UnTok) × (x : Expr) × At exprs (UnaryExpr t x) c b
-  un-asks q = only-un (λ e. At exprs e c b → (t : UnTok) × (x : Expr) × At exprs (UnaryExpr t x) c b) (λ t x h. (t, x, h)) (as-kind (r .spelt) q) (r .spelt)
 
   pub num-asks : getD c 0 0 ≡ 19 → 8 ≤ length b
   num-asks q = only-val (λ e. At exprs e c b → 8 ≤ length b) (λ x h. fits-bodies (h .spells)) (as-kind (r .spelt) q) (r .spelt)
@@ -505,6 +459,22 @@ module _ {c b : List ℕ} {s : Low} {buf : List ℕ} (r : Reads exprs c b s buf)
 
   pub name-asks : getD c 0 0 ≡ 21 → 1 ≤ length b
   name-asks q = only-name (λ e. At exprs e c b → 1 ≤ length b) (λ x h. fits-bodies (h .spells)) (as-kind (r .spelt) q) (r .spelt)
+
+module _ {c b : List ℕ} {s : Low} {buf : List ℕ} where
+  pub mut-asks : Reads exprs c b s buf × (getD c 0 0 ≡ 14) → (x : ℕ) × (i : Expr) × (v : Expr) × At exprs (ArrayMut x i v) c b
+  mut-asks (r, q) = only-mut (λ e. At exprs e c b → (x : ℕ) × (i : Expr) × (v : Expr) × At exprs (ArrayMut x i v) c b) (λ x i v h. (x, i, v, h)) (as-kind (r .spelt) q) (r .spelt)
+
+  pub call-asks : Reads exprs c b s buf × (getD c 0 0 ≡ 15) → (g : ℕ) × (ps : Exprs) × At exprs (FnCall g ps) c b
+  call-asks (r, q) = only-call (λ e. At exprs e c b → (g : ℕ) × (ps : Exprs) × At exprs (FnCall g ps) c b) (λ g ps h. (g, ps, h)) (as-kind (r .spelt) q) (r .spelt)
+
+  pub asg-asks : (y : ℕ) → Reads exprs c b s buf × (getD c 0 0 ≡ 16) → Child (rights y) c b
+  asg-asks y (r, q) = only-asg (λ e. At exprs e c b → Child (rights y) c b) (λ x k h. asg-one h y) (as-kind (r .spelt) q) (r .spelt)
+
+  pub bin-asks : Reads exprs c b s buf × (getD c 0 0 ≡ 17) → (t : BinTok) × (x : Expr) × (y : Expr) × At exprs (BinaryExpr t x y) c b
+  bin-asks (r, q) = only-bin (λ e. At exprs e c b → (t : BinTok) × (x : Expr) × (y : Expr) × At exprs (BinaryExpr t x y) c b) (λ t x y h. (t, x, y, h)) (as-kind (r .spelt) q) (r .spelt)
+
+  pub un-asks : Reads exprs c b s buf × (getD c 0 0 ≡ 18) → Child operands c b
+  un-asks (r, q) = only-un (λ e. At exprs e c b → Child operands c b) (λ t x h. un-one h) (as-kind (r .spelt) q) (r .spelt)
 
 pub num-read : {x : ℕ} {c b : List ℕ} → At exprs (Literal (Val x)) c b → x ≡ beValue (part b 0 8)
 num-read {x} a = rw (a .spells .bodies) (sym (beValue-beBytes 8 x (ltb→lt x (2 ^ 64) (a .ok))))

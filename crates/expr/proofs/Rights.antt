@@ -24,13 +24,13 @@ use Rattle.emit.specs.declared.Done.{Done}
 use Rattle.emit.specs.inner.Run.{kept, Ready, PushesOp, Loads}
 use Rattle.emit.specs.inner.Made.{Spells, Made, Part, At, Reads, Front, ReadsAt, Goes}
 use Rattle.emit.specs.laws.Laws.{some-place}
-use Rattle.emit.specs.laws.Spell.{in-node, fits-nodes, fits-bodies, first, second-from, first-body}
+use Rattle.emit.specs.laws.Spell.{entries-both, bodies-both, in-node, fits-nodes, fits-bodies, first, second-from, first-body}
 use Rattle.emit.specs.laws.Regs.{regs-append, expr-regs}
 use Rattle.emit.specs.laws.Places.{made-as, made-start, made-ready, made-reg, made-push, made-load, made-reads, made-goes}
 use Rattle.expr.specs.inner.Parts.{exprs, storedParts, rights, itemParts}
 use Rattle.expr.proofs.Views.{EKind, kmut, kcall, kasg, kbin, kun, kval, ktext, kname, ktrue, kfalse, as-right, of-right, right-room}
 use Rattle.expr.proofs.Views.{only-val, only-text, only-name, only-tab, only-arr, only-acc, only-exp, only-rest}
-use Rattle.expr.proofs.Exprs.{E, B, Makes, first-count, both-nodes, both-bodies, of-stored, child-reads, child-made, child-ready, num-read}
+use Rattle.expr.proofs.Exprs.{E, B, Makes, first-count, of-stored, Child, one-of, one-made, num-read}
 
 abbrev fit : Expr → Bool
 fit e = everyExpr (λ x. true) (λ v. ltb v (2 ^ 64)) e
@@ -57,32 +57,20 @@ str-front {n = n} {s = s} {a = a} f {x = x} eg l = record {
 -- ---- ArrayAccess
 
 module _ {x a : ℕ} {i : Expr} {c b : List ℕ} (h : At (rights x) (ArrayAccess a i) c b) where
-  pub acc-room : 2 + E i ≤ length c
-  acc-room = omega (arith, fits-nodes (h .spells))
+  abbrev acc-one : Child exprs c b
+  acc-one = one-of exprs i (h .spells) (h .ok)
 
-  pub acc-roomb : 1 + B i ≤ length b
-  acc-roomb = omega (arith, fits-bodies (h .spells))
-
-  acc-child : At exprs i (drop 2 c) (drop 1 b)
-  acc-child = record { spells = in-node (h .spells); ok = h .ok }
-
-  module _ {n : ℕ} {s : Low} {buf : List ℕ} (rdy : Ready s buf) {p₀ : Done} (e₀ : p₀ ≡ record { cont = 2; body = 1; lbl = n; low = s }) where
-    pub acc-reads : ReadsAt exprs c b p₀ buf
-    acc-reads = child-reads exprs i 2 1 c b acc-child (omega (arith, acc-room)) (omega (arith, acc-roomb)) rdy e₀
-
-    module _ {k : Bool} {r₁ : Done} {buf₁ : List ℕ} (g : Goes exprs c b k p₀ buf r₁ buf₁) where
-      pub acc-ready : Ready (r₁ .low) buf₁
-      acc-ready = child-ready exprs i 2 1 c b acc-child (omega (arith, acc-room)) (omega (arith, acc-roomb)) rdy e₀ g
-
-      pub acc-made : {f : Fields} {r₂ : Done} {buf₂ : List ℕ} → f ≡ fields n 7 0 (getD b 0 0) (prev (r₁ .low .reg)) (r₁ .low .reg) 0 0
-          → (r₂ .cont ≡ r₁ .cont) × (r₂ .body ≡ r₁ .body) × (r₂ .lbl ≡ r₁ .lbl) × Loads k (r₁ .low) (fieldBytes f) buf₁ (r₂ .low) buf₂ → Makes (rights x) (ArrayAccess a i) k n s buf r₂ buf₂
-      acc-made ef l w kw =
-          let m = child-made exprs i 2 1 c b acc-child (omega (arith, acc-room)) (omega (arith, acc-roomb)) rdy e₀ g w kw in
-          let q = s .reg + exprRegs i in
-          let o : ℕ → Op = λ z. Ldav a (prev z) z in
-          made-as refl (omega arith) (omega arith) refl
-          (made-load m w kw (instr n (o (r₁ .low .reg))) (instr n (o q)) l refl (ap fieldBytes (rw (first-body (h .spells)) at ef))
-          (λ z. ap (λ (j : ℕ). instr n (o j)) (made-reg m q (ap (λ (j : ℕ). s .reg + j) (sym (expr-regs i w n (s .reg)))) z)))
+  module _ {n : ℕ} {s : Low} {buf : List ℕ} (rdy : Ready s buf) {p₀ : Done} (e₀ : p₀ ≡ record { cont = 2; body = 1; lbl = n; low = s })
+      {k : Bool} {r₁ : Done} {buf₁ : List ℕ} (g : Goes exprs c b k p₀ buf r₁ buf₁) where
+    pub acc-made : {f : Fields} {r₂ : Done} {buf₂ : List ℕ} → f ≡ fields n 7 0 (getD b 0 0) (prev (r₁ .low .reg)) (r₁ .low .reg) 0 0
+        → (r₂ .cont ≡ r₁ .cont) × (r₂ .body ≡ r₁ .body) × (r₂ .lbl ≡ r₁ .lbl) × Loads k (r₁ .low) (fieldBytes f) buf₁ (r₂ .low) buf₂ → Makes (rights x) (ArrayAccess a i) k n s buf r₂ buf₂
+    acc-made ef l w kw =
+        let m = one-made acc-one rdy e₀ g w kw in
+        let q = s .reg + exprRegs i in
+        let o : ℕ → Op = λ z. Ldav a (prev z) z in
+        made-as refl (omega arith) (omega arith) refl
+        (made-load m w kw (instr n (o (r₁ .low .reg))) (instr n (o q)) l refl (ap fieldBytes (rw (first-body (h .spells)) at ef))
+        (λ z. ap (λ (j : ℕ). instr n (o j)) (made-reg m q (ap (λ (j : ℕ). s .reg + j) (sym (expr-regs i w n (s .reg)))) z)))
 
 -- ---- Table
 
@@ -134,10 +122,10 @@ module _ {m x key : ℕ} {e : Expr} {is : Items} (u v : ℕ) (c b : List ℕ) (h
   }
 
   item-room : u ≤ length c → u + 2 + E e ≤ length c
-  item-room i = omega (arith, fits-nodes (h .spells), length-drop u c, i, both-nodes (flatExpr e) (flatItems is))
+  item-room i = omega (arith, fits-nodes (h .spells), length-drop u c, i, entries-both (flatExpr e) (flatItems is))
 
   item-roomb : v ≤ length b → v + 1 + B e ≤ length b
-  item-roomb j = omega (arith, fits-bodies (h .spells), length-drop v b, j, both-bodies (flatExpr e) (flatItems is))
+  item-roomb j = omega (arith, fits-bodies (h .spells), length-drop v b, j, bodies-both (flatExpr e) (flatItems is))
 
   item-key : getD b v 0 ≡ key
   item-key = ap (λ (t : ℕ). getD b t 0) (omega arith) ∙ sym (getD-drop v b 0 0) ∙ first-body (h .spells)
@@ -208,7 +196,7 @@ module _ (m x : ℕ) (c b : List ℕ) (p : Done) {buf : List ℕ} {q₀ : Done} 
               let X = lowerExpr e w (p .lbl) (p .low .reg) in
               let o = push w (p .lbl) (Tbli x key (prev q)) ∷ [] in
               made-as (append-assoc X o (lowerItems is x w (p .lbl) q))
-              (omega (arith, both-nodes (flatExpr e) (flatItems is))) (omega (arith, both-bodies (flatExpr e) (flatItems is))) refl
+              (omega (arith, entries-both (flatExpr e) (flatItems is))) (omega (arith, bodies-both (flatExpr e) (flatItems is))) refl
               (made-goes (item-made₂ a w kw) (itemParts j x) is c b (item-rest (p .cont) (p .body) c b a z) g w kw q (item-q p e w ∙ omega (arith, regs-append X o)))
 
 -- ---- which kind is assigned
@@ -220,19 +208,20 @@ module _ {x : ℕ} {c b : List ℕ} {s : Low} {buf : List ℕ} (r : Reads (right
   pub right-reads : 2 ≤ length c
   right-reads = right-room (r .tree) (r .spelt .spells)
 
-  pub tab-asks : getD c 0 0 ≡ 10 → (is : Items) × At (rights x) (Table is) c b
-  tab-asks q = only-tab (λ k. At (rights x) k c b → (is : Items) × At (rights x) (Table is) c b) (λ is h. (is, h)) (as-right (r .spelt) q) (r .spelt)
-
   pub arr-asks : getD c 0 0 ≡ 12 → (a : ℕ) × (ls : List Lit) × At (rights x) (Array a ls) c b
   arr-asks q = only-arr (λ k. At (rights x) k c b → (a : ℕ) × (ls : List Lit) × At (rights x) (Array a ls) c b) (λ a ls h. (a, ls, h)) (as-right (r .spelt) q) (r .spelt)
-
-  pub acc-asks : getD c 0 0 ≡ 13 → (a : ℕ) × (i : Expr) × At (rights x) (ArrayAccess a i) c b
-  acc-asks q = only-acc (λ k. At (rights x) k c b → (a : ℕ) × (i : Expr) × At (rights x) (ArrayAccess a i) c b) (λ a i h. (a, i, h)) (as-right (r .spelt) q) (r .spelt)
 
   -- an expression
   pub exp-reads : (getD c 0 0 ≡ 10 → ⊥) → (getD c 0 0 ≡ 12 → ⊥) → (getD c 0 0 ≡ 13 → ⊥) → Reads exprs c b s buf
   exp-reads f g j =
       only-rest (λ k. At (rights x) k c b → Reads exprs c b s buf) f g j (λ e k h. record { ready = r .ready; tree = e; spelt = as-expr h }) (of-right (r .spelt)) (r .spelt)
+
+module _ {x : ℕ} {c b : List ℕ} {s : Low} {buf : List ℕ} where
+  pub tab-asks : Reads (rights x) c b s buf × (getD c 0 0 ≡ 10) → (is : Items) × At (rights x) (Table is) c b
+  tab-asks (r, q) = only-tab (λ k. At (rights x) k c b → (is : Items) × At (rights x) (Table is) c b) (λ is h. (is, h)) (as-right (r .spelt) q) (r .spelt)
+
+  pub acc-asks : Reads (rights x) c b s buf × (getD c 0 0 ≡ 13) → Child exprs c b
+  acc-asks (r, q) = only-acc (λ k. At (rights x) k c b → Child exprs c b) (λ a i h. acc-one h) (as-right (r .spelt) q) (r .spelt)
 
 module _ {x : ℕ} {c b : List ℕ} {k : Bool} {n : ℕ} {s : Low} {buf : List ℕ} {d : Done} {buf′ : List ℕ} where
   pub tab-front : getD c 0 0 ≡ 10 → ((is : Items) → At (rights x) (Table is) c b → Makes (rights x) (Table is) k n s buf d buf′) → Front (rights x) c b k n s buf d buf′

@@ -1,15 +1,15 @@
 -- Which kind a node has, and which tree begins with it. Assumes nothing.
-use Prim.Native.Nat.{ℕ, zero, suc, _+_, _≤_, _<_, _^_}
-use mathlib.Core.Path.{_≡_, refl, ap, sym, _∙_}
-use mathlib.Core.Bool.{Bool, true, false}
-use mathlib.Core.List.{List, [], _∷_, _++_}
+use Prim.Native.Nat.{ℕ, _≤_}
+use mathlib.Core.Path.{_≡_, refl}
+use mathlib.Core.Bool.{true, false}
+use mathlib.Core.List.{List}
 use native.Mathlib.Omega.{arith}
 use lib.ListN.{length, getD}
 use Rattle.ast.specs.Tree.{BinTok, UnTok, Lit, Val, Text, Truth, Expr, Literal, Name, BinaryExpr, UnaryExpr, VarAssign, ArrayMut, FnCall}
 use Rattle.ast.specs.Tree.{Rhs, Expression, Table, Array, ArrayAccess, Exprs, Items}
 use Rattle.ast.specs.Flat.{flatExpr, flatRhs}
-use Rattle.emit.specs.inner.Made.{Spells, Part, At}
-use Rattle.emit.specs.laws.Spell.{first-kind, fits-nodes}
+use Rattle.emit.specs.inner.Made.{Spells, At}
+use Rattle.emit.specs.laws.Spell.{expr-size, first-kind, fits-nodes}
 use Rattle.expr.specs.inner.Parts.{exprs, rights}
 
 pub data EKind : ℕ → Expr → Type 0 where
@@ -135,16 +135,7 @@ module _ (Q : Rhs → Type 0) where
   only-rest a b c f (kexp {e = e} k) = f e k
 
 pub expr-room : (e : Expr) {c b : List ℕ} → Spells (flatExpr e) c b → 2 ≤ length c
-expr-room (Literal (Val x)) h = fits-nodes h
-expr-room (Literal (Text t)) h = fits-nodes h
-expr-room (Literal (Truth true)) h = fits-nodes h
-expr-room (Literal (Truth false)) h = fits-nodes h
-expr-room (Name x) h = fits-nodes h
-expr-room (BinaryExpr t x y) h = omega (arith, fits-nodes h)
-expr-room (UnaryExpr t x) h = omega (arith, fits-nodes h)
-expr-room (VarAssign x r) h = omega (arith, fits-nodes h)
-expr-room (ArrayMut x i v) h = omega (arith, fits-nodes h)
-expr-room (FnCall f ps) h = omega (arith, fits-nodes h)
+expr-room e h = omega (arith, fits-nodes h, expr-size e)
 
 pub right-room : (r : Rhs) {c b : List ℕ} → Spells (flatRhs r) c b → 2 ≤ length c
 right-room (Expression e) h = expr-room e h

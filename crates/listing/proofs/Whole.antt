@@ -20,7 +20,7 @@ use Rattle.vm.specs.laws.Kept.{started-storable}
 use Rattle.walk.specs.Bound.{bound}
 use Rattle.report.specs.Report.{reportSize, report}
 use Rattle.lower.specs.LowerCall.{over, Answered, answered, lowerMade, lowerRead, lowerCall}
-use Rattle.calls.specs.Calls.{RunAnswered, startCall, runRefused, ranOut, runCall}
+use Rattle.boundary.specs.Calls.{RunAnswered, startCall, runRefused, ranOut, runCall}
 use Rattle.engine.specs.laws.Accepting.{accepts}
 use Rattle.engine.specs.laws.ListLaws.{Holds, holds-over, run-answers}
 use Rattle.text.specs.Put.{Put}

@@ -337,7 +337,7 @@ module _ (b : List ℕ) (bytes : AreBytes b) where
       -- a number that no operation has
       unknown : (o : ℕ) → limitsOf o ≡ noKind → false ≡ (fitsAs o f && pooledAs o f p b)
       unknown o e =
-          sym (none-of (operandsFit (f .a) (f .b) (f .c) noKind) (wordFits (f .word) 0 && literalFits o (f .kind) (f .len) (f .word)) (pooledAs o f p b) (leb 1 (f .kind)) (leb (f .kind) 0) refl refl)
+          sym (none-of (operandsFit (f .a) (f .b) (f .c) noKind) (wordFits (f .word) 16777215 && literalFits o (f .kind) (f .len) (f .word)) (pooledAs o f p b) (leb 1 (f .kind)) (leb (f .kind) 0) refl refl)
           ∙ ap (λ (m : ℕ). ((operandsFit (f .a) (f .b) (f .c) m && kindFits (f .kind) m) && (wordFits (f .word) (m / 1099511627776) && literalFits o (f .kind) (f .len) (f .word))) && pooledAs o f p b) (sym e)
         where
           none-of : (x z w s t : Bool) → leb 1 (f .kind) ≡ s → leb (f .kind) 0 ≡ t → (((x && (s && t)) && z) && w) ≡ false

@@ -75,6 +75,30 @@ table-made b at size t g e k h =
     ∙ ap (λ (n : ℕ). allFrom n 0 (λ l. eqb (beValue (part b (at + 2 * l) 2) + 1) (getD t l 0))) k
     ∙ scan-same _ _ size 0 (λ l p q. ap (eqb (beValue (part b (at + 2 * l) 2) + 1)) (h l (omega arith)))
 
+-- an entry with 1 less
+pub same-less : (v t : ℕ) → 1 ≤ t → eqb v (t - 1) ≡ eqb (v + 1) t
+same-less v t h = by-test (eqb (v + 1) t) refl
+  where
+    by-test : (x : Bool) → eqb (v + 1) t ≡ x → eqb v (t - 1) ≡ x
+    by-test true e = eq-eqb v (t - 1) (omega (arith, eqb-true (v + 1) t e))
+    by-test false e = ne-eqb v (t - 1) (λ q. eqb-false (v + 1) t e (omega arith))
+
+-- every entry of a table is at least 1, where it was before
+marked-least : (w : ℕ → Bool) (k : ℕ → ℕ) (l m i x : ℕ) → 1 ≤ x → 1 ≤ marked w k l m i x
+marked-least w k l zero i x h = h
+marked-least w k l (suc m) i x h = marked-least w k l m (suc i) (cond (w i && eqb (k i) l) (i + 2) x) (by-test (w i && eqb (k i) l))
+  where
+    by-test : (t : Bool) → 1 ≤ cond t (i + 2) x
+    by-test true = omega arith
+    by-test false = h
+
+pub made-least : (w : ℕ → Bool) (k : ℕ → ℕ) (l n : ℕ) {x y : ℕ} → y ≡ marked w k l n 0 x → 1 ≤ x → 1 ≤ y
+made-least w k l n {x} e h = omega (arith, e, marked-least w k l n 0 x h)
+
+pub first-least : (t : Bool) (x : ℕ) → x ≡ 1 → 1 ≤ cond t 2 x
+first-least true x e = omega arith
+first-least false x e = omega arith
+
 -- ---- the tables of code whose records are those from i on
 
 module _ (b : List ℕ) where

@@ -2,9 +2,10 @@
 ghost use mathlib.Core.Path.{_≡_};
 ghost use mathlib.Core.Bool.{true, cond, _&&_};
 ghost use mathlib.Core.Option.{some};
-ghost use Prim.Native.Nat.{ℕ, _+_, _*_, _≤_, _<_};
+ghost use Prim.Native.Nat.{ℕ, _+_, _*_, _/_, _%_, _≤_, _<_};
 ghost use lib.Dec.{ltb, eqb};
 ghost use lib.ListN.{length, getD, set};
+ghost use Rattle.lent.specs.Bytes.{beValue, part};
 ghost use Rattle.tables.specs.Tables.{Program};
 ghost use Rattle.tables.specs.ProgramBytes.{decodeProgram};
 ghost use Rattle.records.specs.inner.Fits.{allFrom, recordOk};
@@ -60,15 +61,31 @@ fn fill_functions(program: &[u8], n: usize, t: &mut [u16])
     }
 }
 
-// Whether the table at byte at is t.
+// Two bytes as one number, the first the lower: read at once.
+fn pair(program: &[u8], at: usize) -> u64
+    requires { ⌜ at + 2 ≤ length (now program) ⌝ }
+    ensures { λ r. ⌜ (r % 256 * 256 + r / 256 ≡ beValue (part (now (program .entry)) at 2)) × (r < 65536) ⌝ }
+{
+    lent::wide(program[at]) + 256 * lent::wide(program[at + 1])
+}
+
+// The same with the first the higher.
+fn turned(x: u64) -> u16
+    requires { ⌜ x < 65536 ⌝ }
+    ensures { λ r. ⌜ r ≡ x % 256 * 256 + x / 256 ⌝ }
+{
+    (x % 256 * 256 + x / 256) as u16
+}
+
+// Whether the table at byte at is t. Numbers of 16 bits, so that many are compared at once.
 fn same_table(program: &[u8], at: usize, t: &[u16]) -> bool
-    requires { ⌜ at + 2 * length (now t) ≤ length (now program) ⌝ }
+    requires { ⌜ (at + 2 * length (now t) ≤ length (now program)) × ((l : ℕ) → l < length (now t) → 1 ≤ getD (now t) l 0) ⌝ }
     ensures { λ r. ⌜ r ≡ sameTable (now (program .entry)) at (length (now (t .entry))) (λ l. getD (now (t .entry)) l 0) ⌝ }
 {
     let mut ok = true;
     let mut l = 0;
     while l < t.len() {
-        ok = ok & (lent::get_u16(program, at + 2 * l) + 1 == t[l] as u64);
+        ok = ok & (turned(pair(program, at + 2 * l)) == t[l] - 1);
         l += 1;
     }
     ok

@@ -1,3 +1,5 @@
 pub mod Scan
+pub mod Bits
 pub mod Places
 pub mod PoolSteps
+pub mod Whole

@@ -1,15 +1,12 @@
 -- The fields of a record and of an entry of the pool, at their places in the buffer. Assumes nothing.
 use mathlib.Core.Path.{_≡_, sym, ap, _∙_}
-use mathlib.Core.Bool.{_&&_}
 use mathlib.Core.List.{List}
 use Prim.Native.Nat.{ℕ, _+_, _<_, _≤_}
 use native.Mathlib.Nat.{add-zero}
 use native.Mathlib.Omega.{arith}
-use lib.Dec.{leb}
 use lib.ListN.{getD}
 use Rattle.lent.specs.Bytes.{beValue, part}
 use Rattle.lent.specs.laws.Parts.{getD-part, part-part}
-use Rattle.records.specs.inner.Fits.{singleMost, entryFits}
 
 module _ (b : List ℕ) (at : ℕ) where
   pub first-byte : getD b at 0 ≡ getD (part b at 16) 0 0
@@ -20,7 +17,3 @@ module _ (b : List ℕ) (at : ℕ) where
 
   pub word-of : (i n : ℕ) → i + n ≤ 16 → beValue (part b (at + i) n) ≡ beValue (part (part b at 16) i n)
   word-of i n h = ap beValue (sym (part-part b at 16 i n h))
-
-  pub entry-read : (lo hi : ℕ) {w m : ℕ} → w ≡ beValue (part b (at + 8) 8) → m ≡ singleMost (getD b at 0)
-      → (leb lo (getD b at 0) && (leb (getD b at 0) hi && leb w m)) ≡ entryFits lo hi (part b at 16)
-  entry-read lo hi e f = rw (f, e ∙ word-of 8 8 (omega arith), first-byte)

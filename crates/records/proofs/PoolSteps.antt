@@ -1,6 +1,6 @@
 -- Steps through the pool. Assumes nothing.
 use mathlib.Core.Path.{_≡_, refl, sym, ap, ap₂, _∙_}
-use mathlib.Core.Bool.{Bool, true, false, cond, _&&_, and-true}
+use mathlib.Core.Bool.{Bool, true, false, cond, _&&_, _||_, and-true}
 use mathlib.Core.List.{List}
 use mathlib.Core.Logic.{_⊎_, inl, inr, ⊎-elim}
 use Prim.Native.Nat.{ℕ, suc, _+_, _-_, _≤_, _<_}
@@ -11,7 +11,7 @@ use lib.Dec.{leb, eqb}
 use borrow.Author.Tests.{leb-true, le-leb}
 use Rattle.sifv.specs.laws.Layout.{and-left, and-right}
 use Rattle.opc.specs.Record.{Fields}
-use Rattle.records.specs.inner.Fits.{allFrom, entryOk, spanFits, entriesFit, isArray, pooled, taken, poolFits}
+use Rattle.records.specs.inner.Fits.{allFrom, entryOk, spanFits, entriesFit, isLiteral, isArray, pooled, taken, poolFits}
 use Rattle.opc.specs.inner.Fetch.{recordAt}
 
 pub span-ends : (most n w p : ℕ) → spanFits most n w p ≡ true → p + n ≤ 1024
@@ -47,6 +47,14 @@ module _ (b : List ℕ) (f : Fields) (p : ℕ) {r : ℕ} where
 
   pub pooled-none : isArray (f .code) (f .kind) ≡ false → eqb (f .code) 16 ≡ false → r ≡ p → r ≡ cond (pooled f p b) (p + taken f) 1025
   pooled-none e g h = rw (e, g) (h ∙ sym (add-zero p))
+
+-- an operation that has no entries
+pub none-pooled : (o k : ℕ) → (isLiteral o || eqb o 16) ≡ false → (isArray o k ≡ false) × (eqb o 16 ≡ false)
+none-pooled o k = by-test (isLiteral o) (eqb o 16)
+  where
+    by-test : (s t : Bool) → (s || t) ≡ false → ((s && eqb k 5) ≡ false) × (t ≡ false)
+    by-test true t e = let z : _≡_ {A = ℕ} 0 1 = cc in absurd (omega arith)
+    by-test false t e = (refl, e)
 
 -- ---- the loop
 

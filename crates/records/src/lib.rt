@@ -1,55 +1,196 @@
 // The records and the pool of a program, looked at one by one: what the program check (8) tests of them.
 ghost use mathlib.Core.Path.{_≡_};
-ghost use mathlib.Core.Bool.{true, cond};
-ghost use Prim.Native.Nat.{_+_, _*_, _≤_, _<_};
-ghost use lib.ListN.{length};
-ghost use Rattle.opc.specs.inner.Fetch.{fieldsTold, recordAt};
-ghost use Rattle.records.specs.inner.Fits.{allFrom, limitsOf, operandsFit, kindFits, wordFits, singleMost, isLiteral, literalFits, recordFits, recordOk, isArray, entryOk, spanFits, entriesFit, pooled, taken, poolFits};
+ghost use mathlib.Core.Bool.{true, cond, not, _&&_, _||_};
+ghost use mathlib.Core.List.{[], _∷_};
+ghost use Prim.Native.Nat.{_+_, _*_, _/_, _%_, _≤_, _<_};
+ghost use lib.Dec.{eqb};
+ghost use lib.Bits.{bitAnd};
+ghost use lib.ListN.{length, getD};
+ghost use Rattle.opc.specs.inner.Fetch.{recordAt};
+ghost use Rattle.records.specs.inner.Fits.{allFrom, limitsOf, isLiteral, recordOk, isArray, entryOk, spanFits, entriesFit, pooled, taken, poolFits};
+ghost use Rattle.records.specs.inner.Lanes.{leValue, four, eight, limitWords, singleMask};
 
-// What an operation allows, in one number: a byte each, from the lowest, for the largest operand
-// a, b, c, the least and the largest kind; then 3 bytes for the largest number (ffffff: any). What
-// a record does not use has no limit. Another operation allows no kind. One `match` with a value
-// for each operation, and no `if` on what comes of it: so it is a table in read-only memory.
-fn limits(code: u8) -> u64
-    ensures { λ r. ⌜ r ≡ limitsOf code ⌝ }
+// Two, four, eight bytes as one number, the first the lowest: read at once.
+fn low2(program: &[u8], at: usize) -> u64
+    requires { ⌜ at + 2 ≤ length (now program) ⌝ }
+    ensures { λ r. ⌜ (r ≡ getD (now (program .entry)) at 0 + 256 * getD (now (program .entry)) (at + 1) 0) × (r < 65536) ⌝ }
+{
+    lent::wide(program[at]) + 256 * lent::wide(program[at + 1])
+}
+
+fn low4(program: &[u8], at: usize) -> u64
+    requires { ⌜ at + 4 ≤ length (now program) ⌝ }
+    ensures { λ r. ⌜ (r ≡ leValue (four (now (program .entry)) at)) × (r < 4294967296) ⌝ }
+{
+    low2(program, at) + 65536 * low2(program, at + 2)
+}
+
+fn low8(program: &[u8], at: usize) -> u64
+    requires { ⌜ at + 8 ≤ length (now program) ⌝ }
+    ensures { λ r. ⌜ r ≡ leValue (eight (now (program .entry)) at) ⌝ }
+{
+    low4(program, at) + 4294967296 * low4(program, at + 4)
+}
+
+// The same, in a function of its own: the compiler makes one read of the eight bytes here, and not where it is inlined with the tests.
+fn eight_at(program: &[u8], at: usize) -> u64
+    requires { ⌜ at + 8 ≤ length (now program) ⌝ }
+    ensures { λ r. ⌜ r ≡ leValue (eight (now (program .entry)) at) ⌝ }
+{
+    low8(program, at)
+}
+
+// What an operation allows. A record's first eight bytes fit where no bit of the mask is set in
+// them, nor in their sum with `add`: a byte of at most n, below 128, has bit 7 in the mask and
+// 127 - n in `add`. The highest byte of `add` is the least kind. The other eight bytes fit where
+// no bit of `word` is set in them. One `match` with values for each operation, and no `if` on what
+// comes of it: so they are tables in read-only memory.
+struct Allowed {
+    mask: u64,
+    add: u64,
+    word: u64,
+}
+
+fn limits(code: u8) -> Allowed
+    ensures { λ r. ⌜ (r .mask ∷ r .add ∷ r .word ∷ []) ≡ limitWords (limitsOf code) ⌝ }
 {
     match code {
-        1 => 0xffff_ff0e_015f_5f5f,
-        2 => 0xffff_ff02_01ff_5f5f,
-        3 => 0xffff_ff06_01ff_ff5f,
-        4 => 0xffff_ffff_00ff_3f5f,
-        5 => 0xffff_ffff_00ff_5f5f,
-        6 => 0xffff_ffff_00ff_5f3f,
-        7 => 0xffff_ffff_005f_5f3f,
-        8 => 0xffff_ffff_005f_5f3f,
-        9 => 0xffff_ff06_01ff_ff3f,
-        10 => 0xffff_ffff_00ff_3f3f,
-        11 => 0xffff_ffff_00ff_3f5f,
-        12 => 0x0003_ff02_01ff_ff5f,
-        13 => 0x0003_ffff_00ff_ffff,
-        14 => 0xffff_ffff_00ff_ff5f,
-        15 => 0xffff_ffff_00ff_ff5f,
-        16 => 0xffff_ffff_00ff_ff3f,
-        17 => 0x0000_ffff_00ff_ff3f,
-        18 => 0xffff_ffff_00ff_ffff,
-        19 => 0xffff_ffff_00ff_ff5f,
-        20 => 0xffff_ffff_00ff_ff5f,
-        21 => 0xffff_ffff_005f_3f3f,
-        22 => 0xffff_ffff_005f_3f3f,
-        23 => 0xffff_ffff_00ff_ffff,
-        24 => 0xffff_ffff_00ff_ffff,
-        _ => 0x0000_0000_0100_0000,
+        1 => Allowed {
+            mask: 0x0080_8080_0080_8000,
+            add: 0x0120_2020_007c_7100,
+            word: 0x0000_0000_0000_0000,
+        },
+        2 => Allowed {
+            mask: 0x0000_8080_0080_8000,
+            add: 0x0100_2020_007c_7d00,
+            word: 0x0000_0000_0000_0000,
+        },
+        3 => Allowed {
+            mask: 0x0000_0080_0080_8000,
+            add: 0x0100_0020_007c_7900,
+            word: 0x0000_0000_0000_0000,
+        },
+        4 => Allowed {
+            mask: 0x0000_8080_0080_0000,
+            add: 0x0000_4020_007c_0000,
+            word: 0x0000_0000_0000_0000,
+        },
+        5 => Allowed {
+            mask: 0x0000_8080_0080_0000,
+            add: 0x0000_2020_007c_0000,
+            word: 0x0000_0000_0000_0000,
+        },
+        6 => Allowed {
+            mask: 0x0000_8080_0080_0000,
+            add: 0x0000_2040_007c_0000,
+            word: 0x0000_0000_0000_0000,
+        },
+        7 => Allowed {
+            mask: 0x0080_8080_0080_0000,
+            add: 0x0020_2040_007c_0000,
+            word: 0x0000_0000_0000_0000,
+        },
+        8 => Allowed {
+            mask: 0x0080_8080_0080_0000,
+            add: 0x0020_2040_007c_0000,
+            word: 0x0000_0000_0000_0000,
+        },
+        9 => Allowed {
+            mask: 0x0000_0080_0080_8000,
+            add: 0x0100_0040_007c_7900,
+            word: 0x0000_0000_0000_0000,
+        },
+        10 => Allowed {
+            mask: 0x0000_8080_0080_0000,
+            add: 0x0000_4040_007c_0000,
+            word: 0x0000_0000_0000_0000,
+        },
+        11 => Allowed {
+            mask: 0x0000_8080_0080_0000,
+            add: 0x0000_4020_007c_0000,
+            word: 0x0000_0000_0000_0000,
+        },
+        12 => Allowed {
+            mask: 0x0000_0080_0080_8000,
+            add: 0x0100_0020_007c_7d00,
+            word: 0x00fc_ffff_ffff_ffff,
+        },
+        13 => Allowed {
+            mask: 0x0000_0000_0080_0000,
+            add: 0x0000_0000_007c_0000,
+            word: 0x00fc_ffff_ffff_ffff,
+        },
+        14 => Allowed {
+            mask: 0x0000_0080_0080_0000,
+            add: 0x0000_0020_007c_0000,
+            word: 0x0000_0000_0000_0000,
+        },
+        15 => Allowed {
+            mask: 0x0000_0080_0080_0000,
+            add: 0x0000_0020_007c_0000,
+            word: 0x0000_0000_0000_0000,
+        },
+        16 => Allowed {
+            mask: 0x0000_0080_0080_0000,
+            add: 0x0000_0040_007c_0000,
+            word: 0x0000_0000_0000_0000,
+        },
+        17 => Allowed {
+            mask: 0x0000_0080_0080_0000,
+            add: 0x0000_0040_007c_0000,
+            word: 0x00ff_ffff_ffff_ffff,
+        },
+        18 => Allowed {
+            mask: 0x0000_0000_0080_0000,
+            add: 0x0000_0000_007c_0000,
+            word: 0x0000_0000_0000_0000,
+        },
+        19 => Allowed {
+            mask: 0x0000_0080_0080_0000,
+            add: 0x0000_0020_007c_0000,
+            word: 0x0000_0000_0000_0000,
+        },
+        20 => Allowed {
+            mask: 0x0000_0080_0080_0000,
+            add: 0x0000_0020_007c_0000,
+            word: 0x0000_0000_0000_0000,
+        },
+        21 => Allowed {
+            mask: 0x0080_8080_0080_0000,
+            add: 0x0020_4040_007c_0000,
+            word: 0x0000_0000_0000_0000,
+        },
+        22 => Allowed {
+            mask: 0x0080_8080_0080_0000,
+            add: 0x0020_4040_007c_0000,
+            word: 0x0000_0000_0000_0000,
+        },
+        23 => Allowed {
+            mask: 0x0000_0000_0080_0000,
+            add: 0x0000_0000_007c_0000,
+            word: 0x0000_0000_0000_0000,
+        },
+        24 => Allowed {
+            mask: 0x0000_0000_0080_0000,
+            add: 0x0000_0000_007c_0000,
+            word: 0x0000_0000_0000_0000,
+        },
+        _ => Allowed {
+            mask: 0x0000_0000_0080_8000,
+            add: 0x0100_0000_007c_7f00,
+            word: 0x0000_0000_0000_0000,
+        },
     }
 }
 
-// The largest number of a single value's kind.
-fn single_most(kind: u8) -> u64
-    ensures { λ r. ⌜ r ≡ singleMost kind ⌝ }
+// What no number of a single value's kind has.
+fn single_mask(kind: u64) -> u64
+    ensures { λ r. ⌜ r ≡ leValue (singleMask kind) ⌝ }
 {
     match kind {
-        2 => 63,
-        3 => 1,
-        _ => 18446744073709551615,
+        2 => 0xc0ff_ffff_ffff_ffff,
+        3 => 0xfeff_ffff_ffff_ffff,
+        _ => 0,
     }
 }
 
@@ -65,41 +206,34 @@ fn is_array(code: u8, kind: u8) -> bool
     is_literal(code) & (kind == 5)
 }
 
-fn operands_ok(a: u8, b: u8, c: u8, m: u64) -> bool
-    ensures { λ r. ⌜ r ≡ operandsFit a b c m ⌝ }
+// A literal's text or yes/no; an empty table's length: for a record of the bytes h and w that is
+// right but for that. The operation is taken from h: an `if` on the byte that the `match` is on
+// would undo its tables.
+fn literal_ok(h: u64, w: u64, ok: bool) -> bool
+    ensures { λ r. ⌜ r ≡ (ok && (not (isLiteral (h % 256)) || (eqb (bitAnd w (leValue (singleMask (h / 256 % 256)))) 0 && (not (eqb (h / 256 % 256) 6) || eqb (h / 72057594037927936) 0)))) ⌝ }
 {
-    (lent::wide(a) <= m % 256)
-        & ((lent::wide(b) <= m / 256 % 256) & (lent::wide(c) <= m / 65536 % 256))
-}
-
-fn kind_ok(kind: u8, m: u64) -> bool
-    ensures { λ r. ⌜ r ≡ kindFits kind m ⌝ }
-{
-    (m / 16777216 % 256 <= lent::wide(kind)) & (lent::wide(kind) <= m / 4294967296 % 256)
-}
-
-fn word_ok(word: u64, most: u64) -> bool
-    ensures { λ r. ⌜ r ≡ wordFits word most ⌝ }
-{
-    (most == 16777215) | (word <= most)
-}
-
-// A literal's text or yes/no; an empty table's length.
-fn literal_ok(code: u8, kind: u8, len: u8, word: u64) -> bool
-    ensures { λ r. ⌜ r ≡ literalFits code kind len word ⌝ }
-{
-    !is_literal(code) | ((word <= single_most(kind)) & (!(kind == 6) | (len == 0)))
+    let code = h % 256;
+    if (code == 3) | (code == 9) {
+        let kind = h / 256 % 256;
+        let number = (w & single_mask(kind)) == 0;
+        return ok & (number & (!(kind == 6) | (h / 72057594037927936 == 0)));
+    }
+    ok
 }
 
 // Whether a record is in range; its items and parameters are looked at apart.
-fn record_ok(f: opc::Fields) -> bool
-    ensures { λ r. ⌜ r ≡ recordFits (fieldsTold f) ⌝ }
+fn record_ok(program: &[u8], i: usize) -> bool
+    requires { ⌜ (40960 ≤ length (now program)) × (i < 1024) ⌝ }
+    ensures { λ r. ⌜ r ≡ recordOk (now (program .entry)) i ⌝ }
 {
-    let m = limits(f.code);
-    let fields = operands_ok(f.a, f.b, f.c, m) & kind_ok(f.kind, m);
-    let word = word_ok(f.word, m / 1099511627776);
-    let numbers = word & literal_ok(f.code, f.kind, f.len, f.word);
-    (f.lbl <= 1023) & (fields & numbers)
+    let at = 16 * i;
+    let m = limits(program[at]);
+    let h = eight_at(program, at);
+    let w = eight_at(program, at + 8);
+    let sum = std::num::wrapping_add_u64(h, m.add);
+    let most = ((h & m.mask) == 0) & ((sum & m.mask) == 0);
+    let fields = most & (m.add / 72057594037927936 <= h / 256 % 256);
+    literal_ok(h, w, fields & ((w & m.word) == 0))
 }
 
 // Whether the first n records are.
@@ -110,7 +244,7 @@ pub fn records_ok(program: &[u8], n: usize) -> bool
     let mut ok = true;
     let mut i = 0;
     while i < n {
-        ok = ok & record_ok(opc::fetch_fields(program, i));
+        ok = ok & record_ok(program, i);
         i += 1;
     }
     ok
@@ -123,7 +257,8 @@ fn entry_ok(program: &[u8], k: usize, least: u8, most: u8) -> bool
 {
     let at = 16384 + 16 * k;
     let kind = program[at];
-    (least <= kind) & ((kind <= most) & (lent::get_u64(program, at + 8) <= single_most(kind)))
+    let number = (eight_at(program, at + 8) & single_mask(lent::wide(kind))) == 0;
+    (least <= kind) & ((kind <= most) & number)
 }
 
 // Whether the n entries from `from` on have.
@@ -166,8 +301,8 @@ fn entries(program: &[u8], i: usize, most: usize, lo: u8, hi: u8, next: usize) -
     1025
 }
 
-// The entries of record i: an array's items, a function's parameters.
-fn pooled(program: &[u8], i: usize, next: usize) -> usize
+// The entries of record i, of any operation: an array's items, a function's parameters, or none.
+fn own(program: &[u8], i: usize, next: usize) -> usize
     requires { ⌜ (40960 ≤ length (now program)) × (i < 1024) × (next ≤ 1025) ⌝ }
     ensures { λ r. ⌜ r ≡ cond (pooled (recordAt (now (program .entry)) i) next (now (program .entry))) (next + taken (recordAt (now (program .entry)) i)) 1025 ⌝ }
 {
@@ -179,6 +314,29 @@ fn pooled(program: &[u8], i: usize, next: usize) -> usize
     }
     if code == 16 {
         return entries(program, i, 255, 2, 2, next);
+    }
+    next
+}
+
+// Whether an operation may have entries.
+fn may_pool(code: u8) -> bool
+    ensures { λ r. ⌜ r ≡ (isLiteral code || eqb code 16) ⌝ }
+{
+    match code {
+        3 => true,
+        9 => true,
+        16 => true,
+        _ => false,
+    }
+}
+
+// The same; most operations have none.
+fn pooled(program: &[u8], i: usize, next: usize) -> usize
+    requires { ⌜ (40960 ≤ length (now program)) × (i < 1024) × (next ≤ 1025) ⌝ }
+    ensures { λ r. ⌜ r ≡ cond (pooled (recordAt (now (program .entry)) i) next (now (program .entry))) (next + taken (recordAt (now (program .entry)) i)) 1025 ⌝ }
+{
+    if may_pool(program[16 * i]) {
+        return own(program, i, next);
     }
     next
 }

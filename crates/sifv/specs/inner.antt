@@ -2,3 +2,4 @@
 pub mod Forms
 pub mod Seen
 pub mod StoredForm
+pub mod Tests

@@ -1,6 +1,7 @@
 -- Laws and lemmas, and definitions that only proofs need. A reader may skip them.
 pub mod Boxed
 pub mod Checks
+pub mod Direct
 pub mod Formed
 pub mod Gaps
 pub mod Inserts

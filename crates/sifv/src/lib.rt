@@ -5,15 +5,16 @@ ghost use mathlib.Core.Path.{_≡_};
 ghost use Prim.Native.Nat.{_+_, _%_, _^_, _≤_, _<_, min};
 ghost use mathlib.Core.Option.{some};
 ghost use mathlib.Core.Bool.{cond, _&&_};
-ghost use mathlib.Core.List.{[], _++_};
+ghost use mathlib.Core.List.{_++_};
 ghost use lib.Dec.{leb, ltb};
-ghost use lib.ListN.{length, getD, set};
+ghost use lib.ListN.{length, getD};
 ghost use Rattle.sifv.specs.Value.{One, Num, Bl};
 ghost use Rattle.lent.specs.Bytes.{part, splice};
-ghost use Rattle.sifv.specs.Slot.{singleKind, wordOf, singleOf, singleOk, singlesOk, contents, encodeSlot, decodeSlot, slotOk};
-ghost use Rattle.sifv.specs.inner.Seen.{shown, seen, singleSeen, bare, headBytes, kindIn, wordIn, ReadBack, slotItem, setItem, boxBytes, keysOk, oneOk, arrOk, tabOk};
+ghost use Rattle.sifv.specs.Slot.{singleKind, wordOf, singleOf, encodeSlot, decodeSlot, slotOk};
+ghost use Rattle.sifv.specs.inner.Seen.{shown, seen, singleSeen, bare, headBytes, kindIn, wordIn, ReadBack, slotItem, setItem, keysOk, oneOk, arrOk, tabOk};
+ghost use Rattle.sifv.specs.inner.Tests.{wordBound, itemOk, itemTest, numberTest, moderateTest, boxOk};
 ghost use Rattle.sifv.specs.inner.StoredForm.{storedOf};
-ghost use Rattle.lent.specs.Lists.{zeros};
+ghost use Rattle.lent.specs.Lists.{zeros, upto};
 ghost use Rattle.sifv.specs.inner.Forms.{Formed, lenIn};
 
 // A value as the program holds it; the contents of an array and a table stay in their slot.
@@ -120,27 +121,6 @@ pub fn get(s: &[u8], at: usize) -> SifVal
     SifVal::Empty
 }
 
-// The first 16 bytes of a slot.
-fn put_head(s: &mut [u8], at: usize, kind: u64, len: u64, word: u64)
-    requires { ⌜ (at + 16 ≤ length (now s)) × (kind < 256) × (len < 256) ⌝ }
-    ensures { λ _. ⌜ now (s .exit) ≡ splice (now (s .entry)) at (headBytes kind len word) ⌝ }
-{
-    lent::put_u64(
-        s,
-        at,
-        kind * 0x100_0000_0000_0000 + len * 0x1_0000_0000_0000,
-    );
-    lent::put_u64(s, at + 8, word);
-}
-
-// A value without contents, by 16 bytes, over a slot that has none either.
-pub fn put_over(s: &mut [u8], at: usize, v: SifVal)
-    requires { ⌜ (at + 256 ≤ length (now s)) × (part (now s) (at + 16) 240 ≡ zeros 240) ⌝ }
-    ensures { λ _. ⌜ (now (s .exit) ≡ splice (now (s .entry)) at (encodeSlot (bare v))) × (decodeSlot (encodeSlot (bare v)) ≡ bare v) ⌝ }
-{
-    put_head(s, at, kind_of(v), 0, word_of(v));
-}
-
 // Item i of the slot at byte at.
 pub fn get_item(s: &[u8], at: usize, i: usize) -> SifVal
     requires { ⌜ (at + 256 ≤ length (now s)) × (i < 24) ⌝ }
@@ -175,52 +155,103 @@ pub fn put_item(s: &mut [u8], at: usize, i: usize, v: SifVal)
     lent::put_u64(s, at + (40 + i * 8), word_of(v));
 }
 
-fn both(a: bool, b: bool) -> bool
-    ensures { λ r. ⌜ r ≡ (a && b) ⌝ }
-{
-    if a { b } else { false }
-}
+// ---- whether a slot is the one form of a value that may be stored. No loop has a branch or is left early.
 
-// Whether a value may be stored as a single one: a text's number is below 64.
-pub fn single_ok(v: SifVal) -> bool
-    ensures { λ r. ⌜ r ≡ singleOk (singleSeen v) ⌝ }
+// The numbers of a kind are below it; 2 ^ 64 - 1 is a NaN's. All eight cases are told: they become a table.
+fn word_bound(kind: u64) -> u64
+    ensures { λ r. ⌜ r ≡ wordBound (kind % 8) ⌝ }
 {
-    match v {
-        SifVal::Empty => true,
-        SifVal::Num(_) => true,
-        SifVal::Str(t) => t < 64,
-        SifVal::Bl(_) => true,
-        SifVal::Null => true,
-        SifVal::Arr(_) => true,
-        SifVal::Tab(_) => true,
+    match kind % 8 {
+        0 => 0,
+        1 => 0xffff_ffff_ffff_ffff,
+        2 => 64,
+        3 => 2,
+        4 => 1,
+        5 => 0,
+        6 => 0,
+        _ => 0,
     }
 }
 
-// Whether the first n items of the slot at byte at may be stored.
-fn items_ok(s: &[u8], at: usize, n: usize) -> bool
+// Whether a kind and a number are the one form of a single value that may be stored.
+fn item_ok(kind: u64, word: u64) -> bool
+    ensures { λ r. ⌜ r ≡ itemOk kind word ⌝ }
+{
+    (kind < 8) & ((word < word_bound(kind)) & (numeric::canonical(word) == word))
+}
+
+// Whether the first n items are so.
+fn each_ok(s: &[u8], at: usize, n: usize) -> bool
     requires { ⌜ (at + 256 ≤ length (now s)) × (n ≤ 24) ⌝ }
-    ensures { λ r. ⌜ r ≡ singlesOk (contents n (part (now (s .entry)) at 256)) ⌝ }
+    ensures { λ r. ⌜ r ≡ upto n (itemTest (part (now (s .entry)) at 256)) ⌝ }
 {
     let mut ok = true;
     let mut i = 0;
     while i < n {
-        ok = both(ok, single_ok(get_item(s, at, i)));
+        ok = ok
+            & item_ok(
+                lent::wide(s[at + (16 + i)]),
+                lent::get_u64(s, at + (40 + i * 8)),
+            );
         i += 1;
     }
     ok
+}
+
+// Whether the first n items are numbers.
+fn numbers(s: &[u8], at: usize, n: usize) -> bool
+    requires { ⌜ (at + 256 ≤ length (now s)) × (n ≤ 24) ⌝ }
+    ensures { λ r. ⌜ r ≡ upto n (numberTest (part (now (s .entry)) at 256)) ⌝ }
+{
+    let mut ok = true;
+    let mut i = 0;
+    while i < n {
+        ok = ok & (s[at + (16 + i)] == 1);
+        i += 1;
+    }
+    ok
+}
+
+// Whether they are below 2 ^ 1009: by their first bytes. No NaN is.
+fn moderate(s: &[u8], at: usize, n: usize) -> bool
+    requires { ⌜ (at + 256 ≤ length (now s)) × (n ≤ 24) ⌝ }
+    ensures { λ r. ⌜ r ≡ upto n (moderateTest (part (now (s .entry)) at 256)) ⌝ }
+{
+    let mut ok = true;
+    let mut i = 0;
+    while i < n {
+        ok = ok & (s[at + (40 + i * 8)] % 128 < 127);
+        i += 1;
+    }
+    ok
+}
+
+// The usual case: moderate numbers alone.
+fn moderate_numbers(s: &[u8], at: usize, n: usize) -> bool
+    requires { ⌜ (at + 256 ≤ length (now s)) × (n ≤ 24) ⌝ }
+    ensures { λ r. ⌜ r ≡ (upto n (numberTest (part (now (s .entry)) at 256)) && upto n (moderateTest (part (now (s .entry)) at 256))) ⌝ }
+{
+    if numbers(s, at, n) {
+        return moderate(s, at, n);
+    }
+    false
+}
+
+fn items_ok(s: &[u8], at: usize, n: usize) -> bool
+    requires { ⌜ (at + 256 ≤ length (now s)) × (n ≤ 24) ⌝ }
+    ensures { λ r. ⌜ r ≡ upto n (itemTest (part (now (s .entry)) at 256)) ⌝ }
+{
+    if moderate_numbers(s, at, n) {
+        return true;
+    }
+    each_ok(s, at, n)
 }
 
 // Whether a key is next or more, and below 64, and ok.
 fn key_ok(ok: bool, next: u64, k: u64) -> bool
     ensures { λ r. ⌜ r ≡ (ok && (leb next k && ltb k 64)) ⌝ }
 {
-    if !ok {
-        return false;
-    }
-    if k < next {
-        return false;
-    }
-    k < 64
+    ok & ((next <= k) & (k < 64))
 }
 
 // Whether the first n keys of the slot at byte at ascend and are below 64.
@@ -240,74 +271,47 @@ fn keys_ok(s: &[u8], at: usize, n: usize) -> bool
     ok
 }
 
-// The first n items of the slot at byte at, in their one form, in a slot of zeros.
-fn refill(t: &mut [u8], kind: u64, s: &[u8], at: usize, n: usize)
-    requires { ⌜ (now t ≡ zeros 256) × (at + 256 ≤ length (now s)) × (n ≤ 24) × (kind < 256) ⌝ }
-    ensures { λ _. ⌜ now (t .exit) ≡ boxBytes kind n (contents n (part (now (s .entry)) at 256)) [] ⌝ }
+// The bytes of an array or a table with n items, but its kind, its length and what lies behind its items.
+fn box_ok(s: &[u8], at: usize, n: usize) -> bool
+    requires { ⌜ (at + 256 ≤ length (now s)) × (n ≤ 24) ⌝ }
+    ensures { λ r. ⌜ r ≡ boxOk n (part (now (s .entry)) at 256) ⌝ }
 {
-    put_head(t, 0, kind, n as u64, 0);
-    let mut i = 0;
-    while i < n {
-        put_item(t, 0, i, get_item(s, at, i));
-        i += 1;
-    }
+    let kinds = lent::all_zero(s, at + (16 + n), 24 - n);
+    let words = lent::all_zero(s, at + (40 + n * 8), 192 - n * 8);
+    lent::all_zero(s, at + 2, 14) & (items_ok(s, at, n) & (kinds & words))
 }
 
-// Whether the slot at byte at is the one form of the single value that it shows.
+// A slot of a single value.
 fn one_ok(s: &[u8], at: usize) -> bool
     requires { ⌜ at + 256 ≤ length (now s) ⌝ }
     ensures { λ r. ⌜ r ≡ oneOk (part (now (s .entry)) at 256) ⌝ }
 {
-    let v = single(lent::wide(s[at]), lent::get_u64(s, at + 8));
-    let mut t = [0u8; 256];
-    put_over(&mut t, 0, v);
-    both(single_ok(v), lent::same(&t, 0, s, at, 256))
+    let ok = item_ok(lent::wide(s[at]), lent::get_u64(s, at + 8));
+    ok & (lent::all_zero(s, at + 1, 7) & lent::all_zero(s, at + 16, 240))
 }
 
-// The same of an array, and of a table.
+// A slot of an array.
 fn arr_ok(s: &[u8], at: usize) -> bool
-    requires { ⌜ at + 256 ≤ length (now s) ⌝ }
+    requires { ⌜ (at + 256 ≤ length (now s)) × (getD (now s) at 0 ≡ 5) ⌝ }
     ensures { λ r. ⌜ r ≡ arrOk (part (now (s .entry)) at 256) ⌝ }
 {
-    let n = least(lent::wide(s[at + 1]), 24) as usize;
-    let mut t = [0u8; 256];
-    refill(&mut t, 5, s, at, n);
-    both(items_ok(s, at, n), lent::same(&t, 0, s, at, 256))
-}
-
-// Key i of the slot at byte at, where it is one of n.
-fn put_key(t: &mut [u8], s: &[u8], at: usize, n: usize, i: usize)
-    requires { ⌜ (length (now t) ≡ 256) × (at + 256 ≤ length (now s)) × (i < 16) ⌝ }
-    ensures { λ _. ⌜ now (t .exit) ≡ cond (ltb i n) (set (now (t .entry)) (232 + i) (getD (now (s .entry)) (at + (232 + i)) 0)) (now (t .entry)) ⌝ }
-{
-    if i < n {
-        t[232 + i] = s[at + (232 + i)];
-        return;
+    let n = lent::wide(s[at + 1]) as usize;
+    if 24 < n {
+        return false;
     }
+    box_ok(s, at, n) & lent::all_zero(s, at + 232, 24)
 }
 
-// The n keys of the slot at byte at. All 16 are gone over: a copy of n bytes would be a call of C's memcpy.
-fn put_keys(t: &mut [u8], s: &[u8], at: usize, n: usize)
-    requires { ⌜ (length (now t) ≡ 256) × (at + 256 ≤ length (now s)) × (n ≤ 16) ⌝ }
-    ensures { λ _. ⌜ now (t .exit) ≡ splice (now (t .entry)) 232 (part (now (s .entry)) (at + 232) n) ⌝ }
-{
-    let mut i = 0;
-    while i < 16 {
-        put_key(t, s, at, n, i);
-        i += 1;
-    }
-}
-
+// A slot of a table.
 fn tab_ok(s: &[u8], at: usize) -> bool
-    requires { ⌜ at + 256 ≤ length (now s) ⌝ }
+    requires { ⌜ (at + 256 ≤ length (now s)) × (getD (now s) at 0 ≡ 6) ⌝ }
     ensures { λ r. ⌜ r ≡ tabOk (part (now (s .entry)) at 256) ⌝ }
 {
-    let n = least(lent::wide(s[at + 1]), 16) as usize;
-    let mut t = [0u8; 256];
-    refill(&mut t, 6, s, at, n);
-    put_keys(&mut t, s, at, n);
-    let ok = both(keys_ok(s, at, n), items_ok(s, at, n));
-    both(ok, lent::same(&t, 0, s, at, 256))
+    let n = lent::wide(s[at + 1]) as usize;
+    if 16 < n {
+        return false;
+    }
+    keys_ok(s, at, n) & (box_ok(s, at, n) & lent::all_zero(s, at + (232 + n), 24 - n))
 }
 
 // Whether the slot at byte at is the one form of a value that may be stored.

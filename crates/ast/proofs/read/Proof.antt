@@ -9,58 +9,13 @@ use Rattle.ast.proofs.read.Tie as tie
 returns : tie.Need-returns
 returns c = too-short (c .before .before .args .file .now) (c .if1 .taken)
 
-counts-ok-requires : tie.Need-counts-ok-requires
-counts-ok-requires c κs = search needs
-
 returns-2 : tie.Need-returns-2
 returns-2 c = wrong-counts (c .before .before .before .before .args .file .now) (c .before .before .if1 .left) (sym (c .before .counts-ok .ensures) ∙ not-true (c .before .counts-ok .result) (c .if2 .taken))
-
-text-count-requires : tie.Need-text-count-requires
-text-count-requires c κs = search needs
-
-node-count-requires : tie.Need-node-count-requires
-node-count-requires c κs = search needs
-
-add-first : tie.Need-add-first
-add-first c = search needs
-
-mul-size : tie.Need-mul-size
-mul-size c = search needs
-
-add-size : tie.Need-add-size
-add-size c = search needs
 
 returns-3 : tie.Need-returns-3
 returns-3 c =
     cut-off (c .before .before .before .before .before .before .before .args .file .now) (c .before .before .before .before .before .if1 .left) (sym (c .before .before .before .before .counts-ok .ensures) ∙ not-false (c .before .before .before .before .counts-ok .result) (c .before .before .before .if2 .left))
     (rw (c .before .before .text-count .ensures .0, c .before .node-count .ensures .0) at (c .if3 .taken))
-
-sub-read-parts : tie.Need-sub-read-parts
-sub-read-parts c = search needs
-
-part-read-parts-start : tie.Need-part-read-parts-start
-part-read-parts-start c = search needs
-
-part-read-parts-end : tie.Need-part-read-parts-end
-part-read-parts-end c = search needs
-
-sub-read-parts-2 : tie.Need-sub-read-parts-2
-sub-read-parts-2 c = search needs
-
-part-read-parts-start-2 : tie.Need-part-read-parts-start-2
-part-read-parts-start-2 c = search needs
-
-part-read-parts-end-2 : tie.Need-part-read-parts-end-2
-part-read-parts-end-2 c = search needs
-
-sub-read-parts-3 : tie.Need-sub-read-parts-3
-sub-read-parts-3 c = search needs
-
-part-read-parts-start-3 : tie.Need-part-read-parts-start-3
-part-read-parts-start-3 c = search needs
-
-part-read-parts-end-3 : tie.Need-part-read-parts-end-3
-part-read-parts-end-3 c = search needs
 
 read-parts-requires : tie.Need-read-parts-requires
 read-parts-requires c κs =
@@ -78,25 +33,8 @@ returns-4 c =
 
 pub read-spec : {M : Type 1} → statement M
 read-spec =
-    tie.close
-    (tie.spec
-    returns
-    counts-ok-requires
-    returns-2
-    text-count-requires
-    node-count-requires
-    add-first
-    mul-size
-    add-size
-    returns-3
-    sub-read-parts
-    part-read-parts-start
-    part-read-parts-end
-    sub-read-parts-2
-    part-read-parts-start-2
-    part-read-parts-end-2
-    sub-read-parts-3
-    part-read-parts-start-3
-    part-read-parts-end-3
-    read-parts-requires
-    returns-4)
+    tie.close (tie.spec returns (λ c κs. search needs) returns-2 (λ c κs. search needs)
+    (λ c κs. search needs) (λ c. search needs) (λ c. search needs) (λ c. search needs) returns-3
+    (λ c. search needs) (λ c. search needs) (λ c. search needs) (λ c. search needs)
+    (λ c. search needs) (λ c. search needs) (λ c. search needs) (λ c. search needs)
+    (λ c. search needs) read-parts-requires returns-4)

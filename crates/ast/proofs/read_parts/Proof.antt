@@ -8,28 +8,13 @@ use borrow.Author.Needs.{needs}
 use Rattle.ast.proofs.read_parts.Statement.{statement}
 use Rattle.ast.proofs.read_parts.Tie as tie
 
-kinds-ok-requires : tie.Need-kinds-ok-requires
-kinds-ok-requires c κs = search needs
-
 returns : tie.Need-returns
 returns c = refuses _ 4 _ (sym (c .before .kinds-ok .ensures) ∙ not-true (c .before .kinds-ok .result) (c .if1 .taken))
-
-lengths-ok-requires : tie.Need-lengths-ok-requires
-lengths-ok-requires c κs = search needs
 
 returns-2 : tie.Need-returns-2
 returns-2 c =
     passes _ 4 _ (sym (c .before .before .before .kinds-ok .ensures) ∙ not-false (c .before .before .before .kinds-ok .result) (c .before .before .if1 .left))
     (refuses _ 3 _ (sym (c .before .lengths-ok .ensures) ∙ not-true (c .before .lengths-ok .result) (c .if2 .taken)))
-
-text-bytes-requires : tie.Need-text-bytes-requires
-text-bytes-requires c κs = search needs
-
-node-bytes-requires : tie.Need-node-bytes-requires
-node-bytes-requires c κs = search needs
-
-add-size : tie.Need-add-size
-add-size c = search needs
 
 returns-3 : tie.Need-returns-3
 returns-3 c =
@@ -59,15 +44,6 @@ returns-4 c =
 
 pub read-parts-spec : {M : Type 1} → statement M
 read-parts-spec =
-    tie.close
-    (tie.spec
-    kinds-ok-requires
-    returns
-    lengths-ok-requires
-    returns-2
-    text-bytes-requires
-    node-bytes-requires
-    add-size
-    returns-3
-    read-bodies-requires
-    returns-4)
+    tie.close (tie.spec (λ c κs. search needs) returns (λ c κs. search needs) returns-2
+    (λ c κs. search needs) (λ c κs. search needs) (λ c. search needs) returns-3
+    read-bodies-requires returns-4)

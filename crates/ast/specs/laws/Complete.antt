@@ -104,7 +104,7 @@ un-number Negate = (refl, tt)
 -- ---- expressions and right sides: numbers that pass q have 8 bytes
 
 -- a node has a depth
-deep-expr : (t : Expr) → 1 ≤ depthExpr t
+pub deep-expr : (t : Expr) → 1 ≤ depthExpr t
 deep-expr (Literal l) = zero-lt-suc 0
 deep-expr (Name x) = zero-lt-suc 0
 deep-expr (BinaryExpr t a b) = zero-lt-suc _
@@ -119,7 +119,7 @@ deep-rhs (Table is) = zero-lt-suc _
 deep-rhs (Array a ls) = zero-lt-suc _
 deep-rhs (ArrayAccess a i) = zero-lt-suc _
 
-deep-stmt : (t : Stmt) → 1 ≤ depthStmt t
+pub deep-stmt : (t : Stmt) → 1 ≤ depthStmt t
 deep-stmt (Block b) = zero-lt-suc _
 deep-stmt (IfStmt c b k) = zero-lt-suc _
 deep-stmt (ForStmt i v s b) = zero-lt-suc _

@@ -111,32 +111,8 @@ children-returns t c = finish _ (c .before .loop .more) (omega arith) (c .before
 subtree-returns : (t : ℕ) → subtree-lts.Need-returns (subtree-claims t) (subtree-at t) subtree.Post
 subtree-returns t c = let s = c .before .before in stops _ (s .args .depth) _ _ _ (c .if1 .taken) (s .pre .1 .2)
 
-subtree-add-if2 : (t : ℕ) → subtree-lts.Need-add-if2 (subtree-claims t) (subtree-at t) subtree.Post
-subtree-add-if2 t c = omega (arith, c .before .before .pre .1 .2)
-
 subtree-returns-2 : (t : ℕ) → subtree-lts.Need-returns-2 (subtree-claims t) (subtree-at t) subtree.Post
 subtree-returns-2 t c = let s = c .before .before .before in short _ (s .args .depth) _ _ _ (c .if2 .taken) (s .pre .1 .2)
-
-subtree-shared-slice-read-wide : (t : ℕ) → subtree-lts.Need-shared-slice-read-wide (subtree-claims t) (subtree-at t) subtree.Post
-subtree-shared-slice-read-wide t c = omega arith
-
-subtree-wide-requires : (t : ℕ) → subtree-lts.Need-wide-requires (subtree-claims t) (subtree-at t) subtree.Post
-subtree-wide-requires t c κs = search needs
-
-subtree-add-wide : (t : ℕ) → subtree-lts.Need-add-wide (subtree-claims t) (subtree-at t) subtree.Post
-subtree-add-wide t c = omega arith
-
-subtree-shared-slice-read-wide-2 : (t : ℕ) → subtree-lts.Need-shared-slice-read-wide-2 (subtree-claims t) (subtree-at t) subtree.Post
-subtree-shared-slice-read-wide-2 t c = omega arith
-
-subtree-wide-requires-2 : (t : ℕ) → subtree-lts.Need-wide-requires-2 (subtree-claims t) (subtree-at t) subtree.Post
-subtree-wide-requires-2 t c κs = search needs
-
-subtree-sub-children : (t : ℕ) → subtree-lts.Need-sub-children (subtree-claims t) (subtree-at t) subtree.Post
-subtree-sub-children t c = omega arith
-
-subtree-add-children : (t : ℕ) → subtree-lts.Need-add-children (subtree-claims t) (subtree-at t) subtree.Post
-subtree-add-children t c = omega arith
 
 subtree-children-requires : (t : ℕ) → subtree-lts.Need-children-requires (subtree-claims t) (subtree-at t) subtree.Post
 subtree-children-requires t c κs = let s = c .before .before .before .before .before .before .before in (omega (arith, s .pre .0, c .before .before .before .before .before .if1 .left), (s .pre .1 .0, s .pre .1 .1, c .before .before .before .before .if2 .left))
@@ -148,31 +124,14 @@ subtree-returns-3 : (t : ℕ) → subtree-lts.Need-returns-3 (subtree-claims t) 
 subtree-returns-3 t c = let s = c .before .before .before .before .before .before .before .before .before in goes _ (s .args .depth) _ _ _ (omega (arith, c .before .before .before .before .before .before .before .if1 .left)) (c .before .before .before .before .before .before .if2 .left) (c .before .before .before .before .wide .ensures .0) (c .before .before .wide2 .ensures .0) (c .before .children .ensures) (c .whole .ensures)
 
 pub +children+subtree-spec : {M : Type 1} → statement M
-+children+subtree-spec = close μ-children μ-subtree (λ t. children-lts.spec (children-claims t)
-    (children-at t)
-    children.Post
-    children-Inv-loop
-    children-μ-loop
-    (children-loop-holds t)
-    (children-subtree-requires t)
-    (children-add-cost t)
-    (children-sub-more t)
-    (children-loop-less t)
-    (children-loop-again t)
-    (children-returns t))
-    λ t. subtree-lts.spec (subtree-claims t)
-    (subtree-at t)
-    subtree.Post
-    (subtree-returns t)
-    (subtree-add-if2 t)
-    (subtree-returns-2 t)
-    (subtree-shared-slice-read-wide t)
-    (subtree-wide-requires t)
-    (subtree-add-wide t)
-    (subtree-shared-slice-read-wide-2 t)
-    (subtree-wide-requires-2 t)
-    (subtree-sub-children t)
-    (subtree-add-children t)
-    (subtree-children-requires t)
-    (subtree-whole-requires t)
-    (subtree-returns-3 t)
++children+subtree-spec =
+    close μ-children μ-subtree
+    (λ t. children-lts.spec (children-claims t) (children-at t) children.Post children-Inv-loop
+    children-μ-loop (children-loop-holds t) (children-subtree-requires t)
+    (children-add-cost t) (children-sub-more t) (children-loop-less t)
+    (children-loop-again t) (children-returns t))
+    (λ t. subtree-lts.spec (subtree-claims t) (subtree-at t) subtree.Post (subtree-returns t)
+    (λ c. omega (arith, c .before .before .pre .1 .2)) (subtree-returns-2 t)
+    (λ c. omega arith) (λ c κs. search needs) (λ c. omega arith) (λ c. omega arith)
+    (λ c κs. search needs) (λ c. omega arith) (λ c. omega arith)
+    (subtree-children-requires t) (subtree-whole-requires t) (subtree-returns-3 t))

@@ -9,35 +9,14 @@ use borrow.Author.Needs.{needs}
 use Rattle.bound.proofs.bound.Statement.{statement}
 use Rattle.bound.proofs.bound.Tie as tie
 
-plain-requires : tie.Need-plain-requires
-plain-requires c κs = search needs
-
 returns : tie.Need-returns
 returns c = not-plain (readTree (c .before .before .before .args .file .now)) (sym (c .before .plain .ensures) ∙ not-true (c .before .plain .result) (c .if1 .taken))
 
 shared-slice-read-first : tie.Need-shared-slice-read-first
 shared-slice-read-first c = omega (arith, file-long (c .before .before .before .before .args .file .now) (sym (c .before .before .plain .ensures) ∙ not-false (c .before .before .plain .result) (c .before .if1 .left)))
 
-cast-first : tie.Need-cast-first
-cast-first c = omega (arith, c .shared-slice-known2 .given 2)
-
-add-first : tie.Need-add-first
-add-first c = omega (arith, c .shared-slice-known2 .given 2)
-
 get-u16-requires : tie.Need-get-u16-requires
 get-u16-requires c κs = omega (arith, file-long (c .before .before .before .before .args .file .now) (sym (c .before .before .plain .ensures) ∙ not-false (c .before .before .plain .result) (c .before .if1 .left)))
-
-mul-size : tie.Need-mul-size
-mul-size c = search needs
-
-add-size : tie.Need-add-size
-add-size c = omega (arith, c .before .shared-slice-known2 .given 2)
-
-sub-of-entries : tie.Need-sub-of-entries
-sub-of-entries c = search needs
-
-part-of-entries-start : tie.Need-part-of-entries-start
-part-of-entries-start c = search needs
 
 part-of-entries-end : tie.Need-part-of-entries-end
 part-of-entries-end c = entries-end (c .before .before .before .before .before .args .file .now) (sym (c .before .before .before .plain .ensures) ∙ not-false (c .before .before .before .plain .result) (c .before .before .if1 .left)) (c .get-u16 .result) (c .get-u16 .ensures .0)
@@ -52,18 +31,8 @@ returns-2 c =
 
 pub bound-spec : {M : Type 1} → statement M
 bound-spec =
-    tie.close
-    (tie.spec
-    plain-requires
-    returns
-    shared-slice-read-first
-    cast-first
-    add-first
-    get-u16-requires
-    mul-size
-    add-size
-    sub-of-entries
-    part-of-entries-start
-    part-of-entries-end
-    of-entries-requires
-    returns-2)
+    tie.close (tie.spec (λ c κs. search needs) returns shared-slice-read-first
+    (λ c. omega (arith, c .shared-slice-known2 .given 2))
+    (λ c. omega (arith, c .shared-slice-known2 .given 2)) get-u16-requires (λ c. search needs)
+    (λ c. omega (arith, c .before .shared-slice-known2 .given 2)) (λ c. search needs)
+    (λ c. search needs) part-of-entries-end of-entries-requires returns-2)

@@ -3,20 +3,8 @@ use borrow.Author.Tests.{le-leb, lt-leb, eq-eqb, ne-eqb}
 use Rattle.bound.proofs.weight.Statement.{statement}
 use Rattle.bound.proofs.weight.Tie as tie
 
-leaf-requires : tie.Need-leaf-requires
-leaf-requires c κs = search needs
-
-returns : tie.Need-returns
-returns c = rw (le-leb 19 _ (c .before .if1 .taken)) (c .leaf .ensures)
-
-computed-requires : tie.Need-computed-requires
-computed-requires c κs = search needs
-
 returns-2 : tie.Need-returns-2
 returns-2 c = rw (lt-leb 19 _ (c .before .before .if1 .left), c .before .if2 .taken) (c .computed .ensures)
-
-empty-requires : tie.Need-empty-requires
-empty-requires c κs = search needs
 
 returns-3 : tie.Need-returns-3
 returns-3 c = rw (lt-leb 19 _ (c .before .before .before .if1 .left), c .before .before .if2 .left, c .before .if3 .taken) (c .empty .ensures)
@@ -35,15 +23,6 @@ returns-7 c = rw (lt-leb 19 _ (c .before .before .before .before .before .if1 .l
 
 pub weight-spec : {M : Type 1} → statement M
 weight-spec =
-    tie.close
-    (tie.spec
-    leaf-requires
-    returns
-    computed-requires
-    returns-2
-    empty-requires
-    returns-3
-    returns-4
-    returns-5
-    returns-6
-    returns-7)
+    tie.close (tie.spec (λ c κs. search needs)
+    (λ c. rw (le-leb 19 _ (c .before .if1 .taken)) (c .leaf .ensures)) (λ c κs. search needs)
+    returns-2 (λ c κs. search needs) returns-3 returns-4 returns-5 returns-6 returns-7)

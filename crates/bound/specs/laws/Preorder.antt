@@ -18,6 +18,7 @@ use Rattle.ast.specs.Tree.{Stmt, Block, IfStmt, ForStmt, Return, ReturnExpr, Ex
 use Rattle.ast.specs.Plain.{orTruth, plainExpr, plainItems, plainRhs, plainOwn, plainStmt, plain, plainRest}
 use Rattle.ast.specs.Flat.{flatLit, flatLits, flatName, flatExpr, flatRhs, flatItems, blockNode, stmtCount, elifCount, elseCount, flatStmt, flatStmts, flatRest, flat, entryBytes}
 use Rattle.ast.specs.Limits.{depthLeaves, depthExpr, depthRhs, depthItems, depthStmt, depthStmts, depthRest, depth}
+use Rattle.ast.specs.laws.Complete.{deep-expr, deep-stmt}
 use Rattle.walk.specs.laws.Parts.{arm-plain}
 use Rattle.walk.specs.Cost.{costExpr, costAssign, costItems, costRhs, costOwn, orOneCost, costStmt, costStmts, costRest}
 use Rattle.bound.specs.inner.Weights as Rule
@@ -54,28 +55,6 @@ module _ {d l u : ℕ} where
 -- a node and its children
 a-node : {d l u n x : ℕ} {ns : List Node} (k : Kind) (b : List ℕ) → Many d l (numberOf k) n ns x → One (suc d) l u (node k n b ∷ ns) (wholeWeight l u (numberOf k) n x)
 a-node {d} {l} {u} {n} k b h = record { takes = λ ms. ap (λ (r : Forest). Rule.node l u (numberOf k) n r) (h .takes ms) }
-
--- ---- depths
-
-deep-expr : (e : Expr) → 1 ≤ depthExpr e
-deep-expr (Literal l) = omega arith
-deep-expr (Name x) = omega arith
-deep-expr (BinaryExpr t a b) = omega arith
-deep-expr (UnaryExpr t a) = omega arith
-deep-expr (VarAssign x r) = omega arith
-deep-expr (ArrayMut x i v) = omega arith
-deep-expr (FnCall f ps) = omega arith
-
-deep-stmt : (s : Stmt) → 1 ≤ depthStmt s
-deep-stmt (Block b) = omega arith
-deep-stmt (IfStmt c b k) = omega arith
-deep-stmt (ForStmt i v s b) = omega arith
-deep-stmt Return = omega arith
-deep-stmt (ReturnExpr e) = omega arith
-deep-stmt (ExprStmt e) = omega arith
-deep-stmt (VarDecl x) = omega arith
-deep-stmt (VarInit x r) = omega arith
-deep-stmt (FnDecl f ps b) = omega arith
 
 -- ---- expressions, but for 14 and 16 under 7
 

@@ -10,41 +10,20 @@ use Rattle.calls.proofs.run_on.Statement.{statement}
 use Rattle.calls.proofs.run_on.Tie as tie
 use Rattle.execute.specs.inner.ProgramView.{programIn}
 
-count-of-requires : tie.Need-count-of-requires
-count-of-requires c κs = search needs
-
 state-ok-requires : tie.Need-state-ok-requires
-state-ok-requires c κs = let s = c .before .before .before .before .before in let r = program-ready (s .args .program .now) (each-of (s .args .program .now) 0 (λ i h. omega (arith, c .before .before .before .before .shared-slice-known .given i))) (s .pre .0) (s .pre .3) in (omega (arith, s .pre .1), omega (arith, r .few, c .before .count-of .ensures (programIn (s .args .program .now)) (programmed (s .args .program .now) (s .pre .3))))
-
-same-length : tie.Need-same-length
-same-length c = search needs
+state-ok-requires c κs =
+    let s = c .before .before .before .before .before in
+    let r = program-ready (s .args .program .now) (each-of (s .args .program .now) 0 (λ i h. omega (arith, c .before .before .before .before .shared-slice-known .given i))) (s .pre .0) (s .pre .3) in
+    (omega (arith, s .pre .1), omega (arith, r .few, c .before .count-of .ensures (programIn (s .args .program .now)) (programmed (s .args .program .now) (s .pre .3))))
 
 returns : tie.Need-returns
 returns c = let s = c .before .before .before .before .before .before .before in run-refused (s .args .program .now) (s .args .state .now) (s .args .steps) (s .args .report .now) (s .pre .3) (c .before .before .before .count-of .ensures (programIn (s .args .program .now)) (programmed (s .args .program .now) (s .pre .3))) (c .before .state-ok .ensures) (not-true (c .before .state-ok .result) (c .if1 .taken))
-
-progress-of-requires : tie.Need-progress-of-requires
-progress-of-requires c κs = search needs
-
-sub-if2 : tie.Need-sub-if2
-sub-if2 c = search needs
-
-same-length-2 : tie.Need-same-length-2
-same-length-2 c = search needs
 
 returns-2 : tie.Need-returns-2
 returns-2 c =
     let s = c .before .before .before .before .before .before .before .before .before .before in
     run-overflows (s .args .program .now) (s .args .state .now) (s .args .steps) (s .args .report .now) (s .pre .3) (c .before .before .before .before .before .before .count-of .ensures (programIn (s .args .program .now)) (programmed (s .args .program .now) (s .pre .3))) (c .before .before .before .before .state-ok .ensures) (not-false (c .before .before .before .before .state-ok .result) (c .before .before .before .if1 .left))
     (omega (arith, counted-so (s .args .state .now) (c .before .progress-of .ensures), c .if2 .taken))
-
-sub-run-used : tie.Need-sub-run-used
-sub-run-used c = search needs
-
-part-run-used-start : tie.Need-part-run-used-start
-part-run-used-start c = search needs
-
-part-run-used-end : tie.Need-part-run-used-end
-part-run-used-end c = search needs
 
 run-used-requires : tie.Need-run-used-requires
 run-used-requires c κs =
@@ -55,9 +34,6 @@ run-used-requires c κs =
     let ok = sym (c .before .before .before .before .before .state-ok .ensures) ∙ not-false (c .before .before .before .before .before .state-ok .result) (c .before .before .before .before .if1 .left) in
     (r, used-canon (c .before .before .before .before .before .before .before .count-of .result) b (omega (arith, r .few, e)) (each-of b 0 (λ i h. omega (arith, c .before .before .before .before .before .before .before .before .before .slice-known .given i))) (omega (arith, s .pre .1)) ok (c .before .before .progress-of .ensures), e, omega (arith, c .before .if2 .left), length-part b 0 47360 (omega (arith, s .pre .1)))
 
-start-of-requires : tie.Need-start-of-requires
-start-of-requires c κs = search needs
-
 sub-write-report : tie.Need-sub-write-report
 sub-write-report c = c .before .before .before .before .before .before .before .run-used .ensures .begun
 
@@ -67,12 +43,6 @@ write-report-requires c κs =
     let q = s .args .program .now in
     let k = start-small q (each-of q 0 (λ i h. omega (arith, c .before .before .before .before .before .before .before .before .before .before .before .before .before .before .before .before .before .before .shared-slice-known .given i))) (s .pre .3) in
     (omega (arith, s .pre .2), omega (arith, k, c .before .before .start-of .ensures (programIn q) (programmed q (s .pre .3))), c .before .before .before .before .before .before .before .run-used .ensures .inside)
-
-same-length-3 : tie.Need-same-length-3
-same-length-3 c = search needs
-
-same-length-4 : tie.Need-same-length-4
-same-length-4 c = search needs
 
 returns-3 : tie.Need-returns-3
 returns-3 c =
@@ -89,23 +59,7 @@ returns-3 c =
 
 pub run-on-spec : {M : Type 1} → statement M
 run-on-spec =
-    tie.close
-    (tie.spec
-    count-of-requires
-    state-ok-requires
-    same-length
-    returns
-    progress-of-requires
-    sub-if2
-    same-length-2
-    returns-2
-    sub-run-used
-    part-run-used-start
-    part-run-used-end
-    run-used-requires
-    start-of-requires
-    sub-write-report
-    write-report-requires
-    same-length-3
-    same-length-4
-    returns-3)
+    tie.close (tie.spec (λ c κs. search needs) state-ok-requires (λ c. search needs) returns
+    (λ c κs. search needs) (λ c. search needs) (λ c. search needs) returns-2 (λ c. search needs)
+    (λ c. search needs) (λ c. search needs) run-used-requires (λ c κs. search needs)
+    sub-write-report write-report-requires (λ c. search needs) (λ c. search needs) returns-3)

@@ -2,23 +2,5 @@ use borrow.Author.Needs.{needs}
 use Rattle.emit.proofs.count.Statement.{statement}
 use Rattle.emit.proofs.count.Tie as tie
 
-add-t5 : tie.Need-add-t5
-add-t5 c = search needs
-
-add-t6 : tie.Need-add-t6
-add-t6 c = search needs
-
-add-t7 : tie.Need-add-t7
-add-t7 c = search needs
-
-returns : tie.Need-returns
-returns c = rw (c .before .before .before .if1 .taken)
-
-add-t8 : tie.Need-add-t8
-add-t8 c = search needs
-
-returns-2 : tie.Need-returns-2
-returns-2 c = rw (c .before .if1 .left)
-
 pub count-spec : {M : Type 1} → statement M
-count-spec = tie.close (tie.spec add-t5 add-t6 add-t7 returns add-t8 returns-2)
+count-spec = tie.close (tie.spec (λ c. search needs) (λ c. search needs) (λ c. search needs) (λ c. rw (c .before .before .before .if1 .taken)) (λ c. search needs) (λ c. rw (c .before .if1 .left)))

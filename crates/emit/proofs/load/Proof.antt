@@ -3,17 +3,11 @@ use Rattle.emit.proofs.load.Statement.{statement}
 use Rattle.emit.proofs.load.Tie as tie
 use Rattle.emit.specs.laws.Laws.{ready-next, did-load}
 
-nextreg-requires : tie.Need-nextreg-requires
-nextreg-requires c κs = search needs
-
 push-op-requires : tie.Need-push-op-requires
 push-op-requires c κs = ready-next (c .before .before .before .pre) (c .before .nextreg .ensures)
-
-same-length : tie.Need-same-length
-same-length c = search needs
 
 returns : tie.Need-returns
 returns c w i n b e = did-load w i _ _ _ (c .before .before .before .before .nextreg .ensures) n b e (c .before .before .push-op .ensures)
 
 pub load-spec : {M : Type 1} → statement M
-load-spec = tie.close (tie.spec nextreg-requires push-op-requires same-length returns)
+load-spec = tie.close (tie.spec (λ c κs. search needs) push-op-requires (λ c. search needs) returns)

@@ -5,39 +5,17 @@ use Rattle.emit.proofs.push_op.Statement.{statement}
 use Rattle.emit.proofs.push_op.Tie as tie
 use Rattle.emit.specs.laws.Laws.{push-refused, push-full, push-put, roomy}
 
-returns : tie.Need-returns
-returns c w i n b e = push-refused w i _ _ (c .if1 .taken)
-
-is-full-requires : tie.Need-is-full-requires
-is-full-requires c κs = search needs
-
-refused-requires : tie.Need-refused-requires
-refused-requires c κs = search needs
-
 returns-2 : tie.Need-returns-2
 returns-2 c w i n b e = push-full w i _ _ (c .before .before .before .if1 .left) e n (sym (c .before .before .is-full .ensures) ∙ c .before .if2 .taken) (c .refused .ensures)
 
 keep-record-requires : tie.Need-keep-record-requires
 keep-record-requires c κs k = let a = c .before .before .before .before .before .before .args in omega (arith, roomy (a .keep) (a .low) 0 (sym (c .before .before .is-full .ensures) ∙ c .before .if2 .left) .1 k .0, c .before .before .before .before .before .before .pre .room)
 
-count-requires : tie.Need-count-requires
-count-requires c κs = search needs
-
-same-length : tie.Need-same-length
-same-length c = search needs
-
 returns-3 : tie.Need-returns-3
 returns-3 c w i n b e = push-put w i _ _ (c .before .before .before .before .before .before .before .if1 .left) e n (sym (c .before .before .before .before .before .before .is-full .ensures) ∙ c .before .before .before .before .before .if2 .left) (c .count .ensures) (rw (← b) (c .before .before .before .keep-record .ensures))
 
 pub push-op-spec : {M : Type 1} → statement M
 push-op-spec =
-    tie.close
-    (tie.spec
-    returns
-    is-full-requires
-    refused-requires
-    returns-2
-    keep-record-requires
-    count-requires
-    same-length
-    returns-3)
+    tie.close (tie.spec (λ c w i n b e. push-refused w i _ _ (c .if1 .taken)) (λ c κs. search needs)
+    (λ c κs. search needs) returns-2 keep-record-requires (λ c κs. search needs)
+    (λ c. search needs) returns-3)

@@ -14,8 +14,8 @@ use Rattle.opc.specs.Record.{itemsOf, itemBytes, encodeInstr}
 use Rattle.tables.specs.ProgramBytes.{recordBytes, poolBytes}
 use Rattle.compiler.specs.Lower.{Section, Decl, Main, Place, Event, Reg, Push, Below, refusal, only, codeOf}
 use Rattle.emit.specs.declared.Low.{Low}
-use Rattle.emit.specs.inner.Run.{kept, refuse, noRoom, counted, instrItems, stepEvent, afterEvents, putInstr, write, wrote}
-use Rattle.emit.specs.laws.Laws.{Is, yes, no, is, after-refused, refused-stays, length-items, length-record, length-put}
+use Rattle.emit.specs.inner.Run.{kept, noRoom, counted, instrItems, afterEvents, putInstr, write, wrote}
+use Rattle.emit.specs.laws.Laws.{Is, yes, no, is, oneMore, reg-over, reg-in, push-over, push-in, below-in, stays, ran, length-items, length-record, length-put}
 pub use Rattle.emit.specs.laws.Laws.{counted-reg}
 
 -- the section that a pass writes
@@ -87,60 +87,48 @@ pub counted-count : (k : Bool) (s : Low) (n : ℕ) → counted k s n .count ≡ 
 counted-count true s n = omega arith
 counted-count false s n = omega arith
 
--- what is said of the rest of the events
-abbrev Rest : List Event → Type 0
-Rest es = (t : Low) → t .refused ≡ 0 → Room es t → afterEvents es t .refused ≡ refusal es (t .reg) (t .count)
+-- events carried out from a state of which P holds, where P leaves room for what is kept: the refusal is that of the events
+module _ (P : List Event → Low → Type 0) (reg : (es : List Event) (s : Low) → P (Reg ∷ es) s → P es (oneMore s))
+    (fits : (w : Place) (i : Instr) (es : List Event) (s : Low) → s .count < 1024 → P (Push w i ∷ es) s → noRoom (kept (s .decls) (w .section)) s (instrItems i) ≡ false)
+    (next : (w : Place) (i : Instr) (es : List Event) (s : Low) → P (Push w i ∷ es) s → P es (counted (kept (s .decls) (w .section)) s (instrItems i))) where
+  refused-reg : (es : List Event) (s : Low) → ((t : Low) → t .refused ≡ 0 → P es t → afterEvents es t .refused ≡ refusal es (t .reg) (t .count)) → s .refused ≡ 0 → P (Reg ∷ es) s → Is (leb 96 (s .reg))
+      → afterEvents (Reg ∷ es) s .refused ≡ refusal (Reg ∷ es) (s .reg) (s .count)
+  refused-reg es s ih z r (yes e) =
+      let rhs : _≡_ {A = ℕ} 7 (refusal (Reg ∷ es) (s .reg) (s .count)) = rw e in
+      ap (λ (q : Low). afterEvents es q .refused) (reg-over s z e) ∙ stays es 7 s (omega arith) ∙ rhs
+  refused-reg es s ih z r (no e) =
+      let n : s .reg + 1 ≡ suc (s .reg) = omega arith in
+      let rhs : refusal es (s .reg + 1) (s .count) ≡ refusal (Reg ∷ es) (s .reg) (s .count) = rw e (ap (λ (q : ℕ). refusal es q (s .count)) n) in
+      ap (λ (q : Low). afterEvents es q .refused) (reg-in s z e) ∙ ih (oneMore s) z (reg es s r) ∙ rhs
 
-pub stays : (es : List Event) (n : ℕ) (s : Low) → 0 < n → afterEvents es (refuse n s) .refused ≡ n
-stays es n s h = ap (λ (q : Low). q .refused) (after-refused es (refuse n s) (λ e. omega (arith, e)))
+  refused-push : (w : Place) (i : Instr) (es : List Event) (s : Low) → ((t : Low) → t .refused ≡ 0 → P es t → afterEvents es t .refused ≡ refusal es (t .reg) (t .count)) → s .refused ≡ 0
+      → P (Push w i ∷ es) s → Is (leb 1024 (s .count)) → afterEvents (Push w i ∷ es) s .refused ≡ refusal (Push w i ∷ es) (s .reg) (s .count)
+  refused-push w i es s ih z r (yes e) =
+      let rhs : _≡_ {A = ℕ} 7 (refusal (Push w i ∷ es) (s .reg) (s .count)) = rw e in
+      ap (λ (q : Low). afterEvents es q .refused) (push-over w i s z (rw e)) ∙ stays es 7 s (omega arith) ∙ rhs
+  refused-push w i es s ih z r (no e) =
+      let k = kept (s .decls) (w .section) in
+      let rhs : refusal es (s .reg) (suc (s .count)) ≡ refusal (Push w i ∷ es) (s .reg) (s .count) = rw e in
+      ap (λ (q : Low). afterEvents es q .refused) (push-in w i s z (fits w i es s (leb-false 1024 (s .count) e) r))
+      ∙ ih (counted k s (instrItems i)) (counted-refused k s (instrItems i) ∙ z) (next w i es s r)
+      ∙ ap (λ (q : ℕ). refusal es q (counted k s (instrItems i) .count)) (counted-reg k s (instrItems i))
+      ∙ ap (refusal es (s .reg)) (counted-count k s (instrItems i))
+      ∙ rhs
 
--- one step
-pub reg-over : (s : Low) → s .refused ≡ 0 → leb 96 (s .reg) ≡ true → stepEvent Reg s ≡ refuse 7 s
-reg-over s z e = rw (eq-eqb (s .refused) 0 z, e)
+  pub refused-as : (es : List Event) (s : Low) → s .refused ≡ 0 → P es s → afterEvents es s .refused ≡ refusal es (s .reg) (s .count)
+  refused-as [] s z r = z
+  refused-as (Reg ∷ es) s z r = refused-reg es s (λ t. refused-as es t) z r (is (leb 96 (s .reg)))
+  refused-as (Push w i ∷ es) s z r = refused-push w i es s (λ t. refused-as es t) z r (is (leb 1024 (s .count)))
+  refused-as (Below ∷ es) s z r = ap (λ (q : Low). afterEvents es q .refused) (below-in s z) ∙ stays es 6 s (omega arith)
 
-pub reg-in : (s : Low) → s .refused ≡ 0 → leb 96 (s .reg) ≡ false → stepEvent Reg s ≡ record { reg = s .reg + 1; count = s .count; recs = s .recs; items = s .items; refused = s .refused; decls = s .decls }
-reg-in s z e = rw (eq-eqb (s .refused) 0 z, e)
-
-pub push-over : (w : Place) (i : Instr) (s : Low) → s .refused ≡ 0 → leb 1024 (s .count) ≡ true → stepEvent (Push w i) s ≡ refuse 7 s
-push-over w i s z e = rw (eq-eqb (s .refused) 0 z, e)
-
-pub push-in : (w : Place) (i : Instr) (s : Low) → s .refused ≡ 0 → noRoom (kept (s .decls) (w .section)) s (instrItems i) ≡ false → stepEvent (Push w i) s ≡ counted (kept (s .decls) (w .section)) s (instrItems i)
-push-in w i s z e = rw (eq-eqb (s .refused) 0 z, e)
-
-pub below-in : (s : Low) → s .refused ≡ 0 → stepEvent Below s ≡ refuse 6 s
-below-in s z = rw (eq-eqb (s .refused) 0 z)
-
-refused-reg : (es : List Event) (s : Low) → Rest es → s .refused ≡ 0 → Room (Reg ∷ es) s → Is (leb 96 (s .reg)) → afterEvents (Reg ∷ es) s .refused ≡ refusal (Reg ∷ es) (s .reg) (s .count)
-refused-reg es s ih z r (yes e) =
-    let rhs : _≡_ {A = ℕ} 7 (refusal (Reg ∷ es) (s .reg) (s .count)) = rw e in
-    ap (λ (q : Low). afterEvents es q .refused) (reg-over s z e) ∙ stays es 7 s (omega arith) ∙ rhs
-refused-reg es s ih z r (no e) =
-    let t : Low = record { reg = s .reg + 1; count = s .count; recs = s .recs; items = s .items; refused = s .refused; decls = s .decls } in
-    let n : s .reg + 1 ≡ suc (s .reg) = omega arith in
-    let rhs : refusal es (s .reg + 1) (s .count) ≡ refusal (Reg ∷ es) (s .reg) (s .count) = rw e (ap (λ (q : ℕ). refusal es q (s .count)) n) in
-    ap (λ (q : Low). afterEvents es q .refused) (reg-in s z e) ∙ ih t z (record { recs = r .recs; items = r .items }) ∙ rhs
-
-refused-push : (w : Place) (i : Instr) (es : List Event) (s : Low) → Rest es → s .refused ≡ 0 → Room (Push w i ∷ es) s → Is (leb 1024 (s .count)) → afterEvents (Push w i ∷ es) s .refused ≡ refusal (Push w i ∷ es) (s .reg) (s .count)
-refused-push w i es s ih z r (yes e) =
-    let rhs : _≡_ {A = ℕ} 7 (refusal (Push w i ∷ es) (s .reg) (s .count)) = rw e in
-    ap (λ (q : Low). afterEvents es q .refused) (push-over w i s z e) ∙ stays es 7 s (omega arith) ∙ rhs
-refused-push w i es s ih z r (no e) =
-    let k = kept (s .decls) (w .section) in
-    let g = only-kept (s .decls) (w .section) i (codeOf (sectionOf (s .decls)) es) in
-    let f : noRoom k s (instrItems i) ≡ false = room-full k s i (codeOf (sectionOf (s .decls)) es) (leb-false 1024 (s .count) e) (rw g at (r .recs)) (rw g at (r .items)) in
-    let rhs : refusal es (s .reg) (suc (s .count)) ≡ refusal (Push w i ∷ es) (s .reg) (s .count) = rw e in
-    ap (λ (q : Low). afterEvents es q .refused) (push-in w i s z f)
-    ∙ ih (counted k s (instrItems i)) (counted-refused k s (instrItems i) ∙ z) (room-next k w i es s refl r)
-    ∙ ap (λ (q : ℕ). refusal es q (counted k s (instrItems i) .count)) (counted-reg k s (instrItems i))
-    ∙ ap (refusal es (s .reg)) (counted-count k s (instrItems i))
-    ∙ rhs
-
--- the refusal is that of the events
 pub refused-is : (es : List Event) (s : Low) → s .refused ≡ 0 → Room es s → afterEvents es s .refused ≡ refusal es (s .reg) (s .count)
-refused-is [] s z r = z
-refused-is (Reg ∷ es) s z r = refused-reg es s (λ t. refused-is es t) z r (is (leb 96 (s .reg)))
-refused-is (Push w i ∷ es) s z r = refused-push w i es s (λ t. refused-is es t) z r (is (leb 1024 (s .count)))
-refused-is (Below ∷ es) s z r = ap (λ (q : Low). afterEvents es q .refused) (below-in s z) ∙ stays es 6 s (omega arith)
+refused-is =
+    refused-as Room (λ es s r. record { recs = r .recs; items = r .items })
+    (λ w i es s h r.
+    let c = codeOf (sectionOf (s .decls)) es in
+    let g = only-kept (s .decls) (w .section) i c in
+    room-full (kept (s .decls) (w .section)) s i c h (rw g at (r .recs)) (rw g at (r .items)))
+    (λ w i es s r. room-next (kept (s .decls) (w .section)) w i es s refl r)
 
 -- ---- the bytes
 
@@ -175,51 +163,34 @@ put-written i c s buf h g l =
     ∙ sym (splice-append (splice (splice buf a is) (a + length is) (poolBytes c)) (16 * s .recs) r cs (omega (arith, lb, lp)))
     ∙ ap (λ (d : List ℕ). splice d (16 * s .recs) (r ++ cs)) (sym (splice-append buf a is (poolBytes c) (omega arith)))
 
--- what is written after the events, where none is refused
-abbrev Written : List Event → Type 0
-Written es = (t : Low) (d : List ℕ) → Room es t → 40960 ≤ length d → afterEvents es t .refused ≡ 0 → wrote es t d ≡ written d (t .recs) (t .items) (codeOf (sectionOf (t .decls)) es)
+-- what is written after the events
+abbrev Written : List Event → Low → Type 0
+Written es s = (d : List ℕ) → Room es s → 40960 ≤ length d → wrote es s d ≡ written d (s .recs) (s .items) (codeOf (sectionOf (s .decls)) es)
 
-not-true : (es : List Event) (n : ℕ) (s : Low) → 0 < n → afterEvents es (refuse n s) .refused ≡ 0 → ⊥
-not-true es n s h e = omega (arith, e, stays es n s h)
-
-written-push : (k : Bool) (w : Place) (i : Instr) (es : List Event) (s : Low) (buf : List ℕ) → Written es → k ≡ kept (s .decls) (w .section) → Room (Push w i ∷ es) s → 40960 ≤ length buf
-    → afterEvents es (counted k s (instrItems i)) .refused ≡ 0
+written-push : (k : Bool) (w : Place) (i : Instr) (es : List Event) (s : Low) (buf : List ℕ) → Written es (counted k s (instrItems i)) → k ≡ kept (s .decls) (w .section) → Room (Push w i ∷ es) s → 40960 ≤ length buf
     → wrote es (counted k s (instrItems i)) (cond k (putInstr i s buf) buf) ≡ written buf (s .recs) (s .items) (cond k (i ∷ codeOf (sectionOf (s .decls)) es) (codeOf (sectionOf (s .decls)) es))
-written-push true w i es s buf ih e r l z =
+written-push true w i es s buf ih e r l =
     let c = codeOf (sectionOf (s .decls)) es in
     let g = only-kept (s .decls) (w .section) i c in
     let a = rw (g, ← e) at (r .recs) in
     let b = rw (g, ← e) at (r .items) in
-    ih (counted true s (instrItems i)) (putInstr i s buf) (room-next true w i es s e r) (omega (arith, length-put i s buf (omega (arith, b)) (omega (arith, a)) l)) z
+    ih (putInstr i s buf) (room-next true w i es s e r) (omega (arith, length-put i s buf (omega (arith, b)) (omega (arith, a)) l))
     ∙ put-written i c s buf (omega (arith, a)) (omega (arith, b)) l
-written-push false w i es s buf ih e r l z = ih (counted false s (instrItems i)) buf (room-next false w i es s e r) l z
+written-push false w i es s buf ih e r l = ih buf (room-next false w i es s e r) l
 
-written-reg : (es : List Event) (s : Low) (buf : List ℕ) → Written es → s .refused ≡ 0 → Room es s → 40960 ≤ length buf → Is (leb 96 (s .reg)) → afterEvents es (stepEvent Reg s) .refused ≡ 0
-    → wrote es (stepEvent Reg s) buf ≡ written buf (s .recs) (s .items) (codeOf (sectionOf (s .decls)) es)
-written-reg es s buf ih o r l (yes e) z = absurd (not-true es 7 s (omega arith) (ap (λ (q : Low). afterEvents es q .refused) (sym (reg-over s o e)) ∙ z))
-written-reg es s buf ih o r l (no e) z =
-    let t : Low = record { reg = s .reg + 1; count = s .count; recs = s .recs; items = s .items; refused = s .refused; decls = s .decls } in
-    let q = reg-in s o e in
-    ap (λ (x : Low). wrote es x buf) q ∙ ih t buf (record { recs = r .recs; items = r .items }) l (ap (λ (x : Low). afterEvents es x .refused) (sym q) ∙ z)
-
-written-test : (w : Place) (i : Instr) (es : List Event) (s : Low) (buf : List ℕ) → Written es → s .refused ≡ 0 → Room (Push w i ∷ es) s → 40960 ≤ length buf → Is (leb 1024 (s .count))
-    → afterEvents es (stepEvent (Push w i) s) .refused ≡ 0 → wrote es (stepEvent (Push w i) s) (write (Push w i) s buf) ≡ written buf (s .recs) (s .items) (codeOf (sectionOf (s .decls)) (Push w i ∷ es))
-written-test w i es s buf ih o r l (yes e) z = absurd (not-true es 7 s (omega arith) (ap (λ (q : Low). afterEvents es q .refused) (sym (push-over w i s o e)) ∙ z))
-written-test w i es s buf ih o r l (no e) z =
+written-in : (w : Place) (i : Instr) (es : List Event) (s : Low) → s .refused ≡ 0 → noRoom (kept (s .decls) (w .section)) s (instrItems i) ≡ false
+    → Written es (counted (kept (s .decls) (w .section)) s (instrItems i)) → Written (Push w i ∷ es) s
+written-in w i es s o f ih buf r l =
     let k = kept (s .decls) (w .section) in
-    let c = codeOf (sectionOf (s .decls)) es in
-    let g = only-kept (s .decls) (w .section) i c in
-    let f : noRoom k s (instrItems i) ≡ false = room-full k s i c (leb-false 1024 (s .count) e) (rw g at (r .recs)) (rw g at (r .items)) in
-    let q = push-in w i s o f in
     let b : write (Push w i) s buf ≡ cond k (putInstr i s buf) buf = rw (eq-eqb (s .refused) 0 o, f) in
-    ap (λ (x : Low). wrote es x (write (Push w i) s buf)) q
+    ap (λ (x : Low). wrote es x (write (Push w i) s buf)) (push-in w i s o f)
     ∙ ap (wrote es (counted k s (instrItems i))) b
-    ∙ written-push k w i es s buf ih refl r l (ap (λ (x : Low). afterEvents es x .refused) (sym q) ∙ z)
-    ∙ ap (written buf (s .recs) (s .items)) (sym g)
+    ∙ written-push k w i es s buf ih refl r l
+    ∙ ap (written buf (s .recs) (s .items)) (sym (only-kept (s .decls) (w .section) i (codeOf (sectionOf (s .decls)) es)))
 
 -- the bytes are those of the instructions pushed
 pub wrote-is : (es : List Event) (s : Low) (buf : List ℕ) → Room es s → 40960 ≤ length buf → afterEvents es s .refused ≡ 0 → wrote es s buf ≡ written buf (s .recs) (s .items) (codeOf (sectionOf (s .decls)) es)
-wrote-is [] s buf r l z = sym (splice-none (splice buf (16384 + 16 * s .items) []) (16 * s .recs) ∙ splice-none buf (16384 + 16 * s .items))
-wrote-is (Reg ∷ es) s buf r l z = written-reg es s buf (λ t d. wrote-is es t d) (refused-stays (Reg ∷ es) s z) (record { recs = r .recs; items = r .items }) l (is (leb 96 (s .reg))) z
-wrote-is (Push w i ∷ es) s buf r l z = written-test w i es s buf (λ t d. wrote-is es t d) (refused-stays (Push w i ∷ es) s z) r l (is (leb 1024 (s .count))) z
-wrote-is (Below ∷ es) s buf r l z = absurd (not-true es 6 s (omega arith) (ap (λ (q : Low). afterEvents es q .refused) (sym (below-in s (refused-stays (Below ∷ es) s z))) ∙ z))
+wrote-is es s buf r l z =
+    ran (λ es s t. Written es s) (λ s d r l. sym (splice-none (splice d (16384 + 16 * s .items) []) (16 * s .recs) ∙ splice-none d (16384 + 16 * s .items)))
+    (λ es s t o e q d r l. ap (λ (x : Low). wrote es x d) (reg-in s o e) ∙ q d (record { recs = r .recs; items = r .items }) l)
+    (λ w i es s t. written-in w i es s) es s z buf r l

@@ -72,8 +72,6 @@ pub after-decls : (es : List Event) (s : Low) → afterEvents es s .decls ≡ s 
 after-decls [] s = refl
 after-decls (e ∷ es) s = after-decls es (stepEvent e s) ∙ cond-decls (eqb (s .refused) 0) s _ _ (act-decls e s) refl
 
--- ---- the register
-
 pub refused-stays : (es : List Event) (s : Low) → afterEvents es s .refused ≡ 0 → s .refused ≡ 0
 refused-stays es s h = by-test (is (eqb (s .refused) 0))
   where
@@ -81,28 +79,65 @@ refused-stays es s h = by-test (is (eqb (s .refused) 0))
     by-test (yes e) = eqb-true (s .refused) 0 e
     by-test (no e) = sym (ap (λ (t : Low). t .refused) (after-refused es s (eqb-false (s .refused) 0 e))) ∙ h
 
-cond-reg : (b : Bool) (s t : Low) (n k : ℕ) → 0 < n → (t .reg ≡ s .reg + k) → cond b (refuse n s) t .refused ≡ 0 → cond b (refuse n s) t .reg ≡ s .reg + k
-cond-reg true s t n k p q h = absurd (omega (arith, h))
-cond-reg false s t n k p q h = q
+-- ---- one event, where nothing is refused so far
 
-act-reg : (e : Event) (s : Low) → act e s .refused ≡ 0 → act e s .reg ≡ s .reg + regsIn (e ∷ [])
-act-reg Reg s h = cond-reg (leb 96 (s .reg)) s _ 7 1 (omega arith) refl h
-act-reg (Push w i) s h =
-    cond-reg (noRoom (kept (s .decls) (w .section)) s (instrItems i)) s _ 7 0 (omega arith) (counted-reg (kept (s .decls) (w .section)) s (instrItems i) ∙ omega arith) h
-act-reg Below s h = absurd (omega (arith, h))
+-- one register more
+abbrev pub oneMore : Low → Low
+oneMore s = record { reg = s .reg + 1; count = s .count; recs = s .recs; items = s .items; refused = s .refused; decls = s .decls }
 
-step-reg : (e : Event) (s : Low) → s .refused ≡ 0 → stepEvent e s .refused ≡ 0 → stepEvent e s .reg ≡ s .reg + regsIn (e ∷ [])
-step-reg e s z = rw (eq-eqb (s .refused) 0 z) (act-reg e s)
+pub reg-over : (s : Low) → s .refused ≡ 0 → leb 96 (s .reg) ≡ true → stepEvent Reg s ≡ refuse 7 s
+reg-over s z e = rw (eq-eqb (s .refused) 0 z, e)
 
-regs-cons : (e : Event) (es : List Event) → regsIn (e ∷ es) ≡ regsIn (e ∷ []) + regsIn es
-regs-cons Reg es = omega arith
-regs-cons (Push w i) es = omega arith
-regs-cons Below es = omega arith
+pub reg-in : (s : Low) → s .refused ≡ 0 → leb 96 (s .reg) ≡ false → stepEvent Reg s ≡ oneMore s
+reg-in s z e = rw (eq-eqb (s .refused) 0 z, e)
+
+pub push-over : (w : Place) (i : Instr) (s : Low) → s .refused ≡ 0 → noRoom (kept (s .decls) (w .section)) s (instrItems i) ≡ true → stepEvent (Push w i) s ≡ refuse 7 s
+push-over w i s z e = rw (eq-eqb (s .refused) 0 z, e)
+
+pub push-in : (w : Place) (i : Instr) (s : Low) → s .refused ≡ 0 → noRoom (kept (s .decls) (w .section)) s (instrItems i) ≡ false → stepEvent (Push w i) s ≡ counted (kept (s .decls) (w .section)) s (instrItems i)
+push-in w i s z e = rw (eq-eqb (s .refused) 0 z, e)
+
+pub below-in : (s : Low) → s .refused ≡ 0 → stepEvent Below s ≡ refuse 6 s
+below-in s z = rw (eq-eqb (s .refused) 0 z)
+
+pub stays : (es : List Event) (n : ℕ) (s : Low) → 0 < n → afterEvents es (refuse n s) .refused ≡ n
+stays es n s h = ap (λ (q : Low). q .refused) (after-refused es (refuse n s) (λ e. omega (arith, e)))
+
+-- ---- what holds of events, the state before them and the state after them, where none is refused
+
+module _ (Q : List Event → Low → Low → Type 0) (none : (s : Low) → Q [] s s)
+    (reg : (es : List Event) (s t : Low) → s .refused ≡ 0 → leb 96 (s .reg) ≡ false → Q es (oneMore s) t → Q (Reg ∷ es) s t)
+    (push : (w : Place) (i : Instr) (es : List Event) (s t : Low) → s .refused ≡ 0 → noRoom (kept (s .decls) (w .section)) s (instrItems i) ≡ false
+    → Q es (counted (kept (s .decls) (w .section)) s (instrItems i)) t → Q (Push w i ∷ es) s t) where
+  carried : (e : Event) (es : List Event) (s u : Low) → stepEvent e s ≡ u → (afterEvents es u .refused ≡ 0 → Q (e ∷ es) s (afterEvents es u))
+      → afterEvents es (stepEvent e s) .refused ≡ 0 → Q (e ∷ es) s (afterEvents es (stepEvent e s))
+  carried e es s u q f = rw q f
+
+  stopped : (e : Event) (es : List Event) (n : ℕ) (s : Low) → 0 < n → stepEvent e s ≡ refuse n s → afterEvents es (stepEvent e s) .refused ≡ 0 → Q (e ∷ es) s (afterEvents es (stepEvent e s))
+  stopped e es n s h q = carried e es s (refuse n s) q (λ z. absurd (omega (arith, z, stays es n s h)))
+
+  ran-reg : (es : List Event) (s : Low) → ((t : Low) → afterEvents es t .refused ≡ 0 → Q es t (afterEvents es t)) → s .refused ≡ 0 → Is (leb 96 (s .reg))
+      → afterEvents es (stepEvent Reg s) .refused ≡ 0 → Q (Reg ∷ es) s (afterEvents es (stepEvent Reg s))
+  ran-reg es s ih o (yes e) = stopped Reg es 7 s (omega arith) (reg-over s o e)
+  ran-reg es s ih o (no e) = carried Reg es s (oneMore s) (reg-in s o e) (λ z. reg es s (afterEvents es (oneMore s)) o e (ih (oneMore s) z))
+
+  ran-push : (w : Place) (i : Instr) (es : List Event) (s : Low) → ((t : Low) → afterEvents es t .refused ≡ 0 → Q es t (afterEvents es t)) → s .refused ≡ 0
+      → Is (noRoom (kept (s .decls) (w .section)) s (instrItems i)) → afterEvents es (stepEvent (Push w i) s) .refused ≡ 0 → Q (Push w i ∷ es) s (afterEvents es (stepEvent (Push w i) s))
+  ran-push w i es s ih o (yes e) = stopped (Push w i) es 7 s (omega arith) (push-over w i s o e)
+  ran-push w i es s ih o (no e) =
+      let t = counted (kept (s .decls) (w .section)) s (instrItems i) in
+      carried (Push w i) es s t (push-in w i s o e) (λ z. push w i es s (afterEvents es t) o e (ih t z))
+
+  pub ran : (es : List Event) (s : Low) → afterEvents es s .refused ≡ 0 → Q es s (afterEvents es s)
+  ran [] s z = none s
+  ran (Reg ∷ es) s z = ran-reg es s (λ t. ran es t) (refused-stays (Reg ∷ es) s z) (is (leb 96 (s .reg))) z
+  ran (Push w i ∷ es) s z = ran-push w i es s (λ t. ran es t) (refused-stays (Push w i ∷ es) s z) (is (noRoom (kept (s .decls) (w .section)) s (instrItems i))) z
+  ran (Below ∷ es) s z = stopped Below es 6 s (omega arith) (below-in s (refused-stays (Below ∷ es) s z)) z
 
 pub reg-after : (es : List Event) (s : Low) → afterEvents es s .refused ≡ 0 → afterEvents es s .reg ≡ s .reg + regsIn es
-reg-after [] s h = omega arith
-reg-after (e ∷ es) s h =
-    omega (arith, reg-after es (stepEvent e s) h, step-reg e s (refused-stays (e ∷ es) s h) (refused-stays es (stepEvent e s) h), regs-cons e es)
+reg-after =
+    ran (λ es s t. t .reg ≡ s .reg + regsIn es) (λ s. omega arith) (λ es s t o e q. omega (arith, q))
+    (λ w i es s t o e q. q ∙ ap (λ (n : ℕ). n + regsIn es) (counted-reg (kept (s .decls) (w .section)) s (instrItems i)))
 
 -- ---- THE law: events that start from the register that the others leave
 
@@ -226,7 +261,7 @@ push-put w i s buf z e n f q b =
 pub ready-next : {s : Low} {buf : List ℕ} {a : Low} → Ready s buf → a ≡ stepEvent Reg s → Ready a buf
 ready-next {s} {buf} r e = rw e (ready-step Reg s buf r (is (eqb (s .refused) 0)))
 
-reg-items : (s : Low) (a b : Bool) → cond a (cond b (refuse 7 s) (record { reg = s .reg + 1; count = s .count; recs = s .recs; items = s .items; refused = s .refused; decls = s .decls })) s .items ≡ s .items
+reg-items : (s : Low) (a b : Bool) → cond a (cond b (refuse 7 s) (oneMore s)) s .items ≡ s .items
 reg-items s true true = refl
 reg-items s true false = refl
 reg-items s false b = refl

@@ -1,19 +1,16 @@
 -- Leaves: an instruction that loads a value. Assumes nothing.
-use Prim.Native.Nat.{ℕ, zero, suc, _+_, _*_, _≤_, _<_}
-use mathlib.Core.Path.{_≡_, refl, sym, ap, _∙_}
+use Prim.Native.Nat.{ℕ}
+use mathlib.Core.Path.{_≡_, ap}
 use mathlib.Core.Bool.{Bool, true, false, cond}
-use mathlib.Core.List.{List, [], _∷_, _++_}
-use native.Mathlib.Omega.{arith}
+use mathlib.Core.List.{List, [], _∷_}
 use lib.Ieee.{Float, ofBits, toBits, binary64}
-use Rattle.lent.specs.Bytes.{beValue, part}
-use Rattle.sifv.specs.Value.{Single, One, Bl, Num, Str}
-use Rattle.sifv.specs.Slot.{wordOf}
-use Rattle.opc.specs.Op.{Op, Ldc, Ldn, Stc, Stn, Instr, instr}
+use Rattle.sifv.specs.Value.{One, Bl, Num, Str}
+use Rattle.opc.specs.Op.{Op, Ldc, Ldn, Stc, Stn, instr}
 use Rattle.opc.specs.Record.{Fields, fields, fieldBytes, itemsOf, encodeInstr}
-use Rattle.compiler.specs.Lower.{Place, Event, push, load}
+use Rattle.compiler.specs.Lower.{Place, push, load}
 use Rattle.emit.specs.declared.Low.{Low}
 use Rattle.emit.specs.declared.Done.{Done}
-use Rattle.emit.specs.inner.Run.{kept, Ready, Did, PushesOp, Loads}
+use Rattle.emit.specs.inner.Run.{kept, Ready, PushesOp, Loads}
 use Rattle.emit.specs.inner.Made.{Made}
 
 pub ready-start : {p : Done} {u v l : ℕ} {s : Low} {buf : List ℕ} → p ≡ record { cont = u; body = v; lbl = l; low = s } → Ready s buf → Ready (p .low) buf

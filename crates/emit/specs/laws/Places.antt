@@ -1,11 +1,10 @@
 -- Parts of a tree, one after the other: what is made of the first, then of the next. Assumes nothing.
-use Prim.Native.Nat.{ℕ, zero, suc, _+_, _-_, _≤_, _<_, _^_}
+use Prim.Native.Nat.{ℕ, _+_, _-_, _≤_}
 use mathlib.Core.Path.{_≡_, refl, ap, sym, _∙_}
-use mathlib.Core.Bool.{Bool, true, false}
+use mathlib.Core.Bool.{Bool}
 use mathlib.Core.List.{List, [], _∷_, _++_}
 use native.Mathlib.Omega.{arith}
-use lib.ListN.{length, length-drop, drop}
-use Rattle.ast.specs.Node.{Node}
+use lib.ListN.{length, drop}
 use Rattle.ast.specs.Flat.{entryBytes, bodyBytes}
 use Rattle.opc.specs.Op.{Instr, op}
 use Rattle.opc.specs.Record.{itemsOf, encodeInstr}
@@ -13,8 +12,8 @@ use Rattle.compiler.specs.Lower.{Place, Event, Reg, Push}
 use Rattle.compiler.specs.laws.Accepted.{regsIn}
 use Rattle.emit.specs.declared.Low.{Low}
 use Rattle.emit.specs.declared.Done.{Done}
-use Rattle.emit.specs.inner.Run.{kept, Ready, Did, PushesOp, Loads}
-use Rattle.emit.specs.inner.Made.{Spells, Made, Part, At, Reads, Front, ReadsAt, Goes}
+use Rattle.emit.specs.inner.Run.{kept, Ready, PushesOp, Loads}
+use Rattle.emit.specs.inner.Made.{Made, Part, At, Reads, Front, ReadsAt, Goes}
 use Rattle.emit.specs.laws.Laws.{did-if, did-as, reg-is, unrefused, ready-did, kept-did, some-place}
 use Rattle.emit.specs.laws.Spell.{from, from-drop, length-from, fits-nodes, fits-bodies}
 

@@ -1,12 +1,14 @@
 -- Parts of the contents and the bodies that spell nodes. Assumes nothing.
-use Prim.Native.Nat.{ℕ, zero, suc, _+_, _-_, _≤_}
+use Prim.Native.Nat.{ℕ, _+_, _-_, _≤_}
 use mathlib.Core.Path.{_≡_, refl, ap, sym, _∙_}
+use mathlib.Core.Bool.{true, false}
 use mathlib.Core.List.{List, [], _∷_, _++_, append-assoc}
 use native.Mathlib.Omega.{arith}
 use lib.ListN.{length, length-append, length-drop, take, drop, getD}
 use lib.Seq.{drop-at, drop-drop, take-all}
 use Rattle.ast.specs.Node.{Kind, numberOf, Node, node}
-use Rattle.ast.specs.Flat.{entryBytes, bodyBytes}
+use Rattle.ast.specs.Tree.{Val, Text, Truth, Expr, Literal, Name, BinaryExpr, UnaryExpr, VarAssign, ArrayMut, FnCall}
+use Rattle.ast.specs.Flat.{flatExpr, entryBytes, bodyBytes}
 use Rattle.emit.specs.inner.Made.{Spells}
 
 pub entry-append : (ns ms : List Node) → entryBytes (ns ++ ms) ≡ entryBytes ns ++ entryBytes ms
@@ -16,6 +18,25 @@ entry-append (node k c b ∷ ns) ms = ap (λ (l : List ℕ). numberOf k ∷ (c �
 pub body-append : (ns ms : List Node) → bodyBytes (ns ++ ms) ≡ bodyBytes ns ++ bodyBytes ms
 body-append [] ms = refl
 body-append (node k c b ∷ ns) ms = ap (λ (l : List ℕ). b ++ l) (body-append ns ms) ∙ sym (append-assoc b (bodyBytes ns) (bodyBytes ms))
+
+pub entries-both : (ns ms : List Node) → length (entryBytes (ns ++ ms)) ≡ length (entryBytes ns) + length (entryBytes ms)
+entries-both ns ms = ap length (entry-append ns ms) ∙ length-append (entryBytes ns) (entryBytes ms)
+
+pub bodies-both : (ns ms : List Node) → length (bodyBytes (ns ++ ms)) ≡ length (bodyBytes ns) + length (bodyBytes ms)
+bodies-both ns ms = ap length (body-append ns ms) ∙ length-append (bodyBytes ns) (bodyBytes ms)
+
+-- an expression has at least one node
+pub expr-size : (e : Expr) → 2 ≤ length (entryBytes (flatExpr e))
+expr-size (Literal (Val b)) = omega arith
+expr-size (Literal (Text t)) = omega arith
+expr-size (Literal (Truth true)) = omega arith
+expr-size (Literal (Truth false)) = omega arith
+expr-size (Name x) = omega arith
+expr-size (BinaryExpr t a b) = omega arith
+expr-size (UnaryExpr t a) = omega arith
+expr-size (VarAssign x r) = omega arith
+expr-size (ArrayMut x i v) = omega arith
+expr-size (FnCall f ps) = omega arith
 
 -- a part of a slice from k on
 abbrev pub from : ℕ → List ℕ → List ℕ

@@ -9,9 +9,6 @@ use mathlib.Core.Path.{_≡_, subst}
 use native.Mathlib.Omega.{arith}
 use Rattle.ending.proofs.put_names.Statement.{statement}
 use Rattle.ending.proofs.put_names.Tie as tie
-use Rattle.ending.proofs.put_names.Reads as reads
-use Rattle.ending.proofs.put_names.Lts as lts
-use Rattle.ending.proofs.put_name.Reads as put-name-reads
 
 abbrev Inv-loop : tie.InvT-loop
 Inv-loop out₀ at state p₀ x₀ out p x = (x ≤ 64) × Put out₀ at (nameLines 0 x (slotsAt state 24576 64)) out p
@@ -19,44 +16,30 @@ Inv-loop out₀ at state p₀ x₀ out p x = (x ≤ 64) × Put out₀ at (nameLi
 abbrev μ-loop : tie.MeasureT-loop
 μ-loop out₀ at state p₀ x₀ out p x = 64 - x
 
--- src/lib.rt:148:5
 loop-holds : tie.Need-loop-holds Inv-loop μ-loop
 loop-holds c = let s = c .before .before in (omega arith, put-none (s .args .out .now) (s .args .at) (s .pre .0))
 
--- src/lib.rt:149:9
 put-name-requires : tie.Need-put-name-requires Inv-loop μ-loop
 put-name-requires c κs = let s = c .before .before .before .before .before in (omega (arith, put-within (s .pre .0) (c .before .before .loop .inv .1)), s .pre .1, omega (arith, c .before .loop-test .taken))
 
--- src/lib.rt:150:9
-add-x : tie.Need-add-x Inv-loop μ-loop
-add-x c = search needs
-
--- src/lib.rt:148:5
-loop-less : tie.Need-loop-less Inv-loop μ-loop
-loop-less c = omega arith
-
--- src/lib.rt:148:5
 loop-again : tie.Need-loop-again Inv-loop μ-loop
-loop-again c = let s = c .before .before .before .before .before .before .before .before in let l = c .before .before .before .before .before .loop in let t = c .before .before .before .before .loop-test .taken in (omega arith, names-turn (s .pre .0) (s .args .state .now) (l .x) (omega (arith, t)) (l .inv .1) (c .before .before .put-name .ensures))
+loop-again c =
+    let s = c .before .before .before .before .before .before .before .before in
+    let l = c .before .before .before .before .before .loop in
+    let t = c .before .before .before .before .loop-test .taken in
+    (omega arith, names-turn (s .pre .0) (s .args .state .now) (l .x) (omega (arith, t)) (l .inv .1) (c .before .before .put-name .ensures))
 
--- src/lib.rt:142:1
 same-length : tie.Need-same-length Inv-loop μ-loop
 same-length c = put-length (c .before .before .before .before .pre .0) (c .before .loop .inv .1)
 
--- src/lib.rt:142:1
 returns : tie.Need-returns Inv-loop μ-loop
-returns c = let s = c .before .before .before .before in let l = c .before .loop in let e : l .x ≡ 64 = omega (arith, l .inv .0, c .loop-test .left) in subst (λ (k : ℕ). Put (s .args .out .now) (s .args .at) (nameLines 0 k (slotsAt (s .args .state .now) 24576 64)) (l .out) (l .p)) e (l .inv .1)
+returns c =
+    let s = c .before .before .before .before in
+    let l = c .before .loop in
+    let e : l .x ≡ 64 = omega (arith, l .inv .0, c .loop-test .left) in
+    subst (λ (k : ℕ). Put (s .args .out .now) (s .args .at) (nameLines 0 k (slotsAt (s .args .state .now) 24576 64)) (l .out) (l .p)) e (l .inv .1)
 
 pub put-names-spec : {M : Type 1} → statement M
 put-names-spec =
-    tie.close
-    (tie.spec
-    Inv-loop
-    μ-loop
-    loop-holds
-    put-name-requires
-    add-x
-    loop-less
-    loop-again
-    same-length
-    returns)
+    tie.close (tie.spec Inv-loop μ-loop loop-holds put-name-requires (λ c. search needs)
+    (λ c. omega arith) loop-again same-length returns)

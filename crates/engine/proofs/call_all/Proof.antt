@@ -13,49 +13,25 @@ Inv-loop program state₀ calls n last₀ i₀ state last i = (length state ≡ 
 abbrev μ-loop : tie.MeasureT-loop
 μ-loop program state₀ calls n last₀ i₀ state last i = n - i
 
--- src/lib.rt:115:5
 loop-holds : tie.Need-loop-holds Inv-loop μ-loop
 loop-holds c = let s = c .before .before .before in (refl, going-start (s .args .program .now) (s .args .calls .now) (s .args .state .now) _ _ refl)
 
--- src/lib.rt:116:49
 mul-call-next : tie.Need-mul-call-next Inv-loop μ-loop
 mul-call-next c = record { fits = omega (arith, c .before .before .before .before .before .before .good, c .before .loop-test .taken) }
 
--- src/lib.rt:116:9
-call-next-requires : tie.Need-call-next-requires Inv-loop μ-loop
-call-next-requires c κs = omega (arith, c .before .loop-test .taken)
-
--- src/lib.rt:117:9
-add-i : tie.Need-add-i Inv-loop μ-loop
-add-i c = search needs
-
--- src/lib.rt:115:5
-loop-less : tie.Need-loop-less Inv-loop μ-loop
-loop-less c = omega arith
-
--- src/lib.rt:115:5
 loop-again : tie.Need-loop-again Inv-loop μ-loop
-loop-again c = let s = c .before .before .before .before .before .before .before .before .before in let l = c .before .before .before .before .before .loop in (c .before .before .call-next .kept .1 .0 ∙ l .inv .0, going-next (s .args .program .now) (s .args .calls .now) (s .args .state .now) (length (s .args .calls .now) / 16) (l .i) (l .state) (l .last) (l .inv .1) (c .before .before .before .before .loop-test .taken) (c .before .before .call-next .ensures))
+loop-again c =
+    let s = c .before .before .before .before .before .before .before .before .before in
+    let l = c .before .before .before .before .before .loop in
+    (c .before .before .call-next .kept .1 .0 ∙ l .inv .0, going-next (s .args .program .now) (s .args .calls .now) (s .args .state .now) (length (s .args .calls .now) / 16) (l .i) (l .state) (l .last) (l .inv .1) (c .before .before .before .before .loop-test .taken) (c .before .before .call-next .ensures))
 
--- src/lib.rt:109:1
-same-length : tie.Need-same-length Inv-loop μ-loop
-same-length c = c .before .loop .inv .0
-
--- src/lib.rt:109:1
 returns : tie.Need-returns Inv-loop μ-loop
-returns c = let s = c .before .before .before .before .before in let l = c .before .loop in going-end (s .args .program .now) (s .args .calls .now) (s .args .state .now) (length (s .args .calls .now) / 16) (l .i) (l .state) (l .last) refl (l .inv .1) (c .loop-test .left)
+returns c =
+    let s = c .before .before .before .before .before in
+    let l = c .before .loop in
+    going-end (s .args .program .now) (s .args .calls .now) (s .args .state .now) (length (s .args .calls .now) / 16) (l .i) (l .state) (l .last) refl (l .inv .1) (c .loop-test .left)
 
 pub call-all-spec : {M : Type 1} → statement M
 call-all-spec =
-    tie.close
-    (tie.spec
-    Inv-loop
-    μ-loop
-    loop-holds
-    mul-call-next
-    call-next-requires
-    add-i
-    loop-less
-    loop-again
-    same-length
-    returns)
+    tie.close (tie.spec Inv-loop μ-loop loop-holds mul-call-next (λ c κs. omega (arith, c .before .loop-test .taken)) (λ c. search needs) (λ c. omega arith)
+    loop-again (λ c. c .before .loop .inv .0) returns)

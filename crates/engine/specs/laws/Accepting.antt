@@ -21,7 +21,7 @@ use Rattle.compiler.specs.laws.Accepted.{lowered-within}
 use Rattle.vm.specs.Machine.{started}
 use Rattle.vm.specs.StateBytes.{stateSize, encodeState}
 use Rattle.lower.specs.LowerCall.{over, Answered, answered, lowerMade, lowerRead, lowerCall}
-use Rattle.calls.specs.Calls.{startCall}
+use Rattle.boundary.specs.Calls.{startCall}
 use Rattle.engine.specs.laws.CallLaws.{length-over, lowers, lowers-back, lowers-starts}
 use Rattle.compiler.specs.laws.ReadWithin.{read-within}
 use Rattle.opc.specs.Limits.{OpFits}

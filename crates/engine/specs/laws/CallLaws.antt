@@ -20,7 +20,7 @@ use Rattle.compiler.specs.laws.Accepted.{lowered-within, lowered-back}
 use Rattle.vm.specs.Machine.{started}
 use Rattle.vm.specs.StateBytes.{stateSize, encodeState}
 use Rattle.lower.specs.LowerCall.{over, Answered, answered, lowerMade, lowerRead, lowerCall}
-use Rattle.calls.specs.Calls.{startOn, startCall}
+use Rattle.boundary.specs.Calls.{startOn, startCall}
 
 -- a buffer keeps its length
 pub length-over : (new buf : List ℕ) → length new ≤ length buf → length (over new buf) ≡ length buf

@@ -27,7 +27,7 @@ use Rattle.walk.specs.Bound.{bound}
 use Rattle.walk.specs.laws.BoundSize.{bound-small}
 use Rattle.walk.specs.Runs.{runs}
 use Rattle.lower.specs.LowerCall.{over, Answered, answered, lowerCall}
-use Rattle.calls.specs.Calls.{startOn, startCall}
+use Rattle.boundary.specs.Calls.{startOn, startCall}
 use Rattle.engine.specs.laws.CallLaws.{lowers}
 use Rattle.engine.specs.laws.Scripts.{script-runs}
 use Rattle.engine.specs.laws.Accepting.{Accepts, accepts, start-accepts}

@@ -27,7 +27,7 @@ use Rattle.vm.specs.laws.StopLaws.{stop-whole}
 use Rattle.walk.specs.Runs.{Runs, newer, runsFrom}
 use Rattle.report.specs.Report.{reportSize, reportBytes, report}
 use Rattle.lower.specs.LowerCall.{over, answered}
-use Rattle.calls.specs.Calls.{RunAnswered, ranOut, runRefused, runCall, readCall}
+use Rattle.boundary.specs.Calls.{RunAnswered, ranOut, runRefused, runCall, readCall}
 use Rattle.engine.specs.laws.CallLaws.{length-over}
 use Rattle.engine.specs.CallList.{Call, Run, ReadName, Ending, endingIn, endingWith, endingOf, AfterCalls, latest, withCall, afterCall, callAll}
 use Rattle.lent.specs.Lists.{sum}

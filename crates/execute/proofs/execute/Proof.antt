@@ -17,12 +17,6 @@ use Rattle.execute.proofs.execute.Statement.{statement}
 use Rattle.execute.proofs.execute.Tie as tie
 use Rattle.execute.specs.inner.ProgramView.{programIn, jmpModel}
 
-fetch-requires : tie.Need-fetch-requires
-fetch-requires c κs = search needs
-
-enum-known-op : tie.Need-enum-known-op
-enum-known-op c = search needs
-
 binop-requires : tie.Need-binop-requires
 binop-requires c κs =
     let s = c .before .before .before .before .before .before .before in
@@ -40,9 +34,6 @@ loads-requires c κs =
     let l = s .args .loc in
     let m = means-at (s .args .program .now) p (s .pre .0) (l .pos) (s .pre .2) (sym (c .before .before .before .before .op .given .1) ∙ c .before .before .before .before .before .before .fetch .ensures) in
     (canon-neat (length (p .code)) b l (s .pre .1), omega (arith, s .pre .2, s .pre .0 .few), m .3)
-
-enum-known-op-2 : tie.Need-enum-known-op-2
-enum-known-op-2 c = search needs
 
 unop-requires : tie.Need-unop-requires
 unop-requires c κs =
@@ -62,9 +53,6 @@ loads-requires-2 c κs =
     let m = means-at (s .args .program .now) p (s .pre .0) (l .pos) (s .pre .2) (sym (c .before .before .before .before .op2 .given .1) ∙ c .before .before .before .before .before .before .fetch .ensures) in
     (canon-neat (length (p .code)) b l (s .pre .1), omega (arith, s .pre .2, s .pre .0 .few), m .2)
 
-enum-known-op-3 : tie.Need-enum-known-op-3
-enum-known-op-3 c = search needs
-
 loadc-requires : tie.Need-loadc-requires
 loadc-requires c κs =
     let s = c .before .before .before .before .before .before .before in
@@ -73,12 +61,6 @@ loadc-requires c κs =
     let l = s .args .loc in
     let m = means-at (s .args .program .now) p (s .pre .0) (l .pos) (s .pre .2) (sym (c .before .before .op3 .given .1) ∙ c .before .before .before .before .fetch .ensures) in
     (omega (arith, s .pre .0 .room), canon-neat (length (p .code)) b l (s .pre .1), m .1, m .2, m .3)
-
-stepped-requires : tie.Need-stepped-requires
-stepped-requires c κs = search needs
-
-enum-known-op-4 : tie.Need-enum-known-op-4
-enum-known-op-4 c = search needs
 
 loadn-requires : tie.Need-loadn-requires
 loadn-requires c κs =
@@ -89,12 +71,6 @@ loadn-requires c κs =
     let m = means-at (s .args .program .now) p (s .pre .0) (l .pos) (s .pre .2) (sym (c .before .before .op4 .given .1) ∙ c .before .before .before .before .fetch .ensures) in
     (canon-neat (length (p .code)) b l (s .pre .1), m .1, m .2)
 
-stepped-requires-2 : tie.Need-stepped-requires-2
-stepped-requires-2 c κs = search needs
-
-enum-known-op-5 : tie.Need-enum-known-op-5
-enum-known-op-5 c = search needs
-
 mv-requires : tie.Need-mv-requires
 mv-requires c κs =
     let s = c .before .before .before .before .before .before .before in
@@ -103,12 +79,6 @@ mv-requires c κs =
     let l = s .args .loc in
     let m = means-at (s .args .program .now) p (s .pre .0) (l .pos) (s .pre .2) (sym (c .before .before .op5 .given .1) ∙ c .before .before .before .before .fetch .ensures) in
     (canon-neat (length (p .code)) b l (s .pre .1), m .1, m .2)
-
-stepped-requires-3 : tie.Need-stepped-requires-3
-stepped-requires-3 c κs = search needs
-
-enum-known-op-6 : tie.Need-enum-known-op-6
-enum-known-op-6 c = search needs
 
 loadarrs-requires : tie.Need-loadarrs-requires
 loadarrs-requires c κs =
@@ -128,9 +98,6 @@ loads-requires-3 c κs =
     let m = means-at (s .args .program .now) p (s .pre .0) (l .pos) (s .pre .2) (sym (c .before .before .before .before .op6 .given .1) ∙ c .before .before .before .before .before .before .fetch .ensures) in
     (canon-neat (length (p .code)) b l (s .pre .1), omega (arith, s .pre .2, s .pre .0 .few), m .2)
 
-enum-known-op-7 : tie.Need-enum-known-op-7
-enum-known-op-7 c = search needs
-
 loadarrv-requires : tie.Need-loadarrv-requires
 loadarrv-requires c κs =
     let s = c .before .before .before .before .before .before .before in
@@ -149,9 +116,6 @@ loads-requires-4 c κs =
     let m = means-at (s .args .program .now) p (s .pre .0) (l .pos) (s .pre .2) (sym (c .before .before .before .before .op7 .given .1) ∙ c .before .before .before .before .before .before .fetch .ensures) in
     (canon-neat (length (p .code)) b l (s .pre .1), omega (arith, s .pre .2, s .pre .0 .few), m .3)
 
-enum-known-op-8 : tie.Need-enum-known-op-8
-enum-known-op-8 c = search needs
-
 newarrv-requires : tie.Need-newarrv-requires
 newarrv-requires c κs =
     let s = c .before .before .before .before .before .before .before in
@@ -161,12 +125,6 @@ newarrv-requires c κs =
     let m = means-at (s .args .program .now) p (s .pre .0) (l .pos) (s .pre .2) (sym (c .before .before .op8 .given .1) ∙ c .before .before .before .before .fetch .ensures) in
     (canon-neat (length (p .code)) b l (s .pre .1), m .1, m .2, m .3)
 
-stepped-requires-4 : tie.Need-stepped-requires-4
-stepped-requires-4 c κs = search needs
-
-enum-known-op-9 : tie.Need-enum-known-op-9
-enum-known-op-9 c = search needs
-
 storec-requires : tie.Need-storec-requires
 storec-requires c κs =
     let s = c .before .before .before .before .before .before .before in
@@ -175,12 +133,6 @@ storec-requires c κs =
     let l = s .args .loc in
     let m = means-at (s .args .program .now) p (s .pre .0) (l .pos) (s .pre .2) (sym (c .before .before .op9 .given .1) ∙ c .before .before .before .before .fetch .ensures) in
     (omega (arith, s .pre .0 .room), canon-neat (length (p .code)) b l (s .pre .1), m .1, m .2, m .3)
-
-stepped-requires-5 : tie.Need-stepped-requires-5
-stepped-requires-5 c κs = search needs
-
-enum-known-op-10 : tie.Need-enum-known-op-10
-enum-known-op-10 c = search needs
 
 slot-requires : tie.Need-slot-requires
 slot-requires c κs =
@@ -202,12 +154,6 @@ store-requires c κs =
     let f = name-formed b (canon-neat (length (p .code)) b l (s .pre .1)) (o .0) (m .1) (c .slot .ensures) in
     (canon-neat (length (p .code)) b l (s .pre .1), m .2, f .0, f .1, omega (arith, c .slot .ensures))
 
-stepped-requires-6 : tie.Need-stepped-requires-6
-stepped-requires-6 c κs = search needs
-
-enum-known-op-11 : tie.Need-enum-known-op-11
-enum-known-op-11 c = search needs
-
 reg-requires : tie.Need-reg-requires
 reg-requires c κs =
     let s = c .before .before .before .before .before .before .before in
@@ -228,12 +174,6 @@ store-requires-2 c κs =
     let f = reg-formed b (canon-neat (length (p .code)) b l (s .pre .1)) (o .0) (m .1) (c .reg .ensures) in
     (canon-neat (length (p .code)) b l (s .pre .1), m .2, f .0, f .1, omega (arith, c .reg .ensures))
 
-stepped-requires-7 : tie.Need-stepped-requires-7
-stepped-requires-7 c κs = search needs
-
-enum-known-op-12 : tie.Need-enum-known-op-12
-enum-known-op-12 c = search needs
-
 branch-requires : tie.Need-branch-requires
 branch-requires c κs =
     let s = c .before .before .before .before .before .before .before in
@@ -243,9 +183,6 @@ branch-requires c κs =
     let m = means-at (s .args .program .now) p (s .pre .0) (l .pos) (s .pre .2) (sym (c .before .before .op12 .given .1) ∙ c .before .before .before .before .fetch .ensures) in
     (s .pre .0, canon-neat (length (p .code)) b l (s .pre .1), s .pre .1 .holds, omega (arith, s .pre .2, s .pre .0 .few), m .1, m .2)
 
-enum-known-op-13 : tie.Need-enum-known-op-13
-enum-known-op-13 c = search needs
-
 jump-requires : tie.Need-jump-requires
 jump-requires c κs =
     let s = c .before .before .before .before .before .before in
@@ -254,9 +191,6 @@ jump-requires c κs =
     let l = s .args .loc in
     let m = means-at (s .args .program .now) p (s .pre .0) (l .pos) (s .pre .2) (sym (c .before .op13 .given .1) ∙ c .before .before .before .fetch .ensures) in
     (s .pre .0, m .1)
-
-enum-known-op-14 : tie.Need-enum-known-op-14
-enum-known-op-14 c = search needs
 
 incrr-requires : tie.Need-incrr-requires
 incrr-requires c κs =
@@ -276,9 +210,6 @@ loads-requires-5 c κs =
     let m = means-at (s .args .program .now) p (s .pre .0) (l .pos) (s .pre .2) (sym (c .before .before .before .before .op14 .given .1) ∙ c .before .before .before .before .before .before .fetch .ensures) in
     (canon-neat (length (p .code)) b l (s .pre .1), omega (arith, s .pre .2, s .pre .0 .few), m .1)
 
-enum-known-op-15 : tie.Need-enum-known-op-15
-enum-known-op-15 c = search needs
-
 decrr-requires : tie.Need-decrr-requires
 decrr-requires c κs =
     let s = c .before .before .before .before .before .before .before in
@@ -297,9 +228,6 @@ loads-requires-6 c κs =
     let m = means-at (s .args .program .now) p (s .pre .0) (l .pos) (s .pre .2) (sym (c .before .before .before .before .op15 .given .1) ∙ c .before .before .before .before .before .before .fetch .ensures) in
     (canon-neat (length (p .code)) b l (s .pre .1), omega (arith, s .pre .2, s .pre .0 .few), m .1)
 
-enum-known-op-16 : tie.Need-enum-known-op-16
-enum-known-op-16 c = search needs
-
 declare-requires : tie.Need-declare-requires
 declare-requires c κs =
     let s = c .before .before .before .before .before .before .before in
@@ -308,9 +236,6 @@ declare-requires c κs =
     let l = s .args .loc in
     let m = means-at (s .args .program .now) p (s .pre .0) (l .pos) (s .pre .2) (sym (c .before .before .op16 .given .1) ∙ c .before .before .before .before .fetch .ensures) in
     (s .pre .1 .holds, omega (arith, s .pre .2, s .pre .0 .few), m .1)
-
-enum-known-op-17 : tie.Need-enum-known-op-17
-enum-known-op-17 c = search needs
 
 call-requires : tie.Need-call-requires
 call-requires c κs =
@@ -332,9 +257,6 @@ ret-requires c κs =
     let l = s .args .loc in
     (s .pre .1 .holds, omega (arith, s .pre .1 .sound .calls-max, length-frames b (l .calls)))
 
-enum-known-op-18 : tie.Need-enum-known-op-18
-enum-known-op-18 c = search needs
-
 push-requires : tie.Need-push-requires
 push-requires c κs =
     let s = c .before .before .before .before .before .before .before in
@@ -344,9 +266,6 @@ push-requires c κs =
     let m = means-at (s .args .program .now) p (s .pre .0) (l .pos) (s .pre .2) (sym (c .before .before .op18 .given .1) ∙ c .before .before .before .before .fetch .ensures) in
     (canon-neat (length (p .code)) b l (s .pre .1), s .pre .1 .holds, omega (arith, s .pre .1 .sound .stack-max, length-stack b (l .depth)), omega (arith, s .pre .2, s .pre .0 .few), m .1)
 
-enum-known-op-19 : tie.Need-enum-known-op-19
-enum-known-op-19 c = search needs
-
 pop-requires : tie.Need-pop-requires
 pop-requires c κs =
     let s = c .before .before .before .before .before .before .before in
@@ -355,9 +274,6 @@ pop-requires c κs =
     let l = s .args .loc in
     let m = means-at (s .args .program .now) p (s .pre .0) (l .pos) (s .pre .2) (sym (c .before .before .op19 .given .1) ∙ c .before .before .before .before .fetch .ensures) in
     (canon-neat (length (p .code)) b l (s .pre .1), s .pre .1 .holds, omega (arith, s .pre .1 .sound .stack-max, length-stack b (l .depth)), omega (arith, s .pre .2, s .pre .0 .few), m .1)
-
-enum-known-op-20 : tie.Need-enum-known-op-20
-enum-known-op-20 c = search needs
 
 tbli-requires : tie.Need-tbli-requires
 tbli-requires c κs =
@@ -369,12 +285,6 @@ tbli-requires c κs =
     let o = c .before .before .op20 .given .0 in
     (canon-neat (length (p .code)) b l (s .pre .1), m .1, m .2, m .3, s .pre .1 .sound .names-ok .held (o .0) .0)
 
-stepped-requires-8 : tie.Need-stepped-requires-8
-stepped-requires-8 c κs = search needs
-
-enum-known-op-21 : tie.Need-enum-known-op-21
-enum-known-op-21 c = search needs
-
 tblg-requires : tie.Need-tblg-requires
 tblg-requires c κs =
     let s = c .before .before .before .before .before .before .before in
@@ -384,27 +294,6 @@ tblg-requires c κs =
     let m = means-at (s .args .program .now) p (s .pre .0) (l .pos) (s .pre .2) (sym (c .before .before .op21 .given .1) ∙ c .before .before .before .before .fetch .ensures) in
     let o = c .before .before .op21 .given .0 in
     (canon-neat (length (p .code)) b l (s .pre .1), m .1, m .3, s .pre .1 .sound .names-ok .held (o .0) .0)
-
-stepped-requires-9 : tie.Need-stepped-requires-9
-stepped-requires-9 c κs = search needs
-
-enum-told-2 : tie.Need-enum-told-2
-enum-told-2 c = search needs
-
-on-requires : tie.Need-on-requires
-on-requires c κs = search needs
-
-enum-told-3 : tie.Need-enum-told-3
-enum-told-3 c = search needs
-
-on-requires-2 : tie.Need-on-requires-2
-on-requires-2 c κs = search needs
-
-enum-told-4 : tie.Need-enum-told-4
-enum-told-4 c = search needs
-
-same-length : tie.Need-same-length
-same-length c = search needs
 
 returns : tie.Need-returns
 returns c =
@@ -417,9 +306,6 @@ returns c =
     step-at p b l (model.Binary (binModel (o .0)) (o .1 .0) (o .1 .1 .0) (o .1 .1 .1 .0)) (s .pre .2) (m .0)
     (loads-law b l (s .pre .1 .holds) (o .1 .1 .1 .0) (m .3) (c .before .before .before .before .binop .ensures) (c .before .before .loads .ensures))
 
-same-length-2 : tie.Need-same-length-2
-same-length-2 c = search needs
-
 returns-2 : tie.Need-returns-2
 returns-2 c =
     let s = c .before .before .before .before .before .before .before .before .before .before .before .before in
@@ -430,9 +316,6 @@ returns-2 c =
     let o = c .before .before .before .before .before .before .before .op2 .given .0 in
     step-at p b l (model.Unary (unModel (o .0)) (o .1 .0) (o .1 .1 .0)) (s .pre .2) (m .0)
     (loads-law b l (s .pre .1 .holds) (o .1 .1 .0) (m .2) (c .before .before .before .before .unop .ensures) (c .before .before .loads2 .ensures))
-
-same-length-3 : tie.Need-same-length-3
-same-length-3 c = search needs
 
 returns-3 : tie.Need-returns-3
 returns-3 c =
@@ -445,9 +328,6 @@ returns-3 c =
     step-at p b l (model.Ldc (o .0) (literalIn (s .args .program .now) (o .1 .0))) (s .pre .2) (m .0)
     (loadv-law b l (s .pre .1 .holds) (o .0) (Ok (literalIn (s .args .program .now) (o .1 .0))) (m .1) (c .before .before .before .loadc .ensures) (c .stepped .ensures))
 
-same-length-4 : tie.Need-same-length-4
-same-length-4 c = search needs
-
 returns-4 : tie.Need-returns-4
 returns-4 c =
     let s = c .before .before .before .before .before .before .before .before .before .before .before in
@@ -458,9 +338,6 @@ returns-4 c =
     let o = c .before .before .before .before .before .before .op4 .given .0 in
     step-at p b l (model.Ldn (o .0) (o .1 .0)) (s .pre .2) (m .0)
     (loadv-law b l (s .pre .1 .holds) (o .0) (read (namesOf b) (o .1 .0)) (m .1) (c .before .before .before .loadn .ensures) (c .stepped2 .ensures))
-
-same-length-5 : tie.Need-same-length-5
-same-length-5 c = search needs
 
 returns-5 : tie.Need-returns-5
 returns-5 c =
@@ -473,9 +350,6 @@ returns-5 c =
     step-at p b l (model.Mv (o .0) (o .1 .0)) (s .pre .2) (m .0)
     (wrote-law b l (s .pre .1 .holds) (o .1 .0) (regsOf b (o .0)) (m .2) (c .before .before .before .mv .ensures) (c .stepped3 .ensures))
 
-same-length-6 : tie.Need-same-length-6
-same-length-6 c = search needs
-
 returns-6 : tie.Need-returns-6
 returns-6 c =
     let s = c .before .before .before .before .before .before .before .before .before .before .before .before in
@@ -486,9 +360,6 @@ returns-6 c =
     let o = c .before .before .before .before .before .before .before .op6 .given .0 in
     step-at p b l (model.Ldas (o .0) (o .1 .0)) (s .pre .2) (m .0)
     (loads-law b l (s .pre .1 .holds) (o .1 .0) (m .2) (c .before .before .before .before .loadarrs .ensures) (c .before .before .loads3 .ensures))
-
-same-length-7 : tie.Need-same-length-7
-same-length-7 c = search needs
 
 returns-7 : tie.Need-returns-7
 returns-7 c =
@@ -501,9 +372,6 @@ returns-7 c =
     step-at p b l (model.Ldav (o .0) (o .1 .0) (o .1 .1 .0)) (s .pre .2) (m .0)
     (loads-law b l (s .pre .1 .holds) (o .1 .1 .0) (m .3) (c .before .before .before .before .loadarrv .ensures) (c .before .before .loads4 .ensures))
 
-same-length-8 : tie.Need-same-length-8
-same-length-8 c = search needs
-
 returns-8 : tie.Need-returns-8
 returns-8 c =
     let s = c .before .before .before .before .before .before .before .before .before .before .before in
@@ -514,9 +382,6 @@ returns-8 c =
     let o = c .before .before .before .before .before .before .op8 .given .0 in
     step-at p b l (model.Upda (o .0) (o .1 .0) (o .1 .1 .0)) (s .pre .2) (m .0)
     (stores-law b l (s .pre .1 .holds) (c .before .before .before .newarrv .ensures) (c .stepped4 .ensures))
-
-same-length-9 : tie.Need-same-length-9
-same-length-9 c = search needs
 
 returns-9 : tie.Need-returns-9
 returns-9 c =
@@ -529,9 +394,6 @@ returns-9 c =
     step-at p b l (model.Stc (literalIn (s .args .program .now) (o .0)) (o .1 .0)) (s .pre .2) (m .0)
     (stores-law b l (s .pre .1 .holds) (c .before .before .before .storec .ensures) (c .stepped5 .ensures))
 
-same-length-10 : tie.Need-same-length-10
-same-length-10 c = search needs
-
 returns-10 : tie.Need-returns-10
 returns-10 c =
     let s = c .before .before .before .before .before .before .before .before .before .before .before .before in
@@ -543,9 +405,6 @@ returns-10 c =
     step-at p b l (model.Stn (o .0) (o .1 .0)) (s .pre .2) (m .0)
     (stores-law b l (s .pre .1 .holds) (stored-as b (o .1 .0) (name-value b (canon-neat (length (p .code)) b l (s .pre .1)) (o .0) (m .1) (c .before .before .before .before .slot .ensures)) (c .before .before .before .store .ensures)) (c .stepped6 .ensures))
 
-same-length-11 : tie.Need-same-length-11
-same-length-11 c = search needs
-
 returns-11 : tie.Need-returns-11
 returns-11 c =
     let s = c .before .before .before .before .before .before .before .before .before .before .before .before in
@@ -556,9 +415,6 @@ returns-11 c =
     let o = c .before .before .before .before .before .before .before .op11 .given .0 in
     step-at p b l (model.Str (o .0) (o .1 .0)) (s .pre .2) (m .0)
     (stores-law b l (s .pre .1 .holds) (stored-as b (o .1 .0) (reg-value b (canon-neat (length (p .code)) b l (s .pre .1)) (o .0) (m .1) (c .before .before .before .before .reg .ensures)) (c .before .before .before .store2 .ensures)) (c .stepped7 .ensures))
-
-same-length-12 : tie.Need-same-length-12
-same-length-12 c = search needs
 
 returns-12 : tie.Need-returns-12
 returns-12 c =
@@ -582,9 +438,6 @@ returns-13 c =
     step-at p b l (model.Jmpa (o .0)) (s .pre .2) (m .0)
     (jump-law b l (s .pre .1 .holds) (labelAt (p .code) (o .0)) (c .jump .ensures))
 
-same-length-13 : tie.Need-same-length-13
-same-length-13 c = search needs
-
 returns-14 : tie.Need-returns-14
 returns-14 c =
     let s = c .before .before .before .before .before .before .before .before .before .before .before .before in
@@ -595,9 +448,6 @@ returns-14 c =
     let o = c .before .before .before .before .before .before .before .op14 .given .0 in
     step-at p b l (model.Incrr (o .0)) (s .pre .2) (m .0)
     (loads-law b l (s .pre .1 .holds) (o .0) (m .1) (c .before .before .before .before .incrr .ensures) (c .before .before .loads5 .ensures))
-
-same-length-14 : tie.Need-same-length-14
-same-length-14 c = search needs
 
 returns-15 : tie.Need-returns-15
 returns-15 c =
@@ -610,9 +460,6 @@ returns-15 c =
     step-at p b l (model.Decrr (o .0)) (s .pre .2) (m .0)
     (loads-law b l (s .pre .1 .holds) (o .0) (m .1) (c .before .before .before .before .decrr .ensures) (c .before .before .loads6 .ensures))
 
-same-length-15 : tie.Need-same-length-15
-same-length-15 c = search needs
-
 returns-16 : tie.Need-returns-16
 returns-16 c =
     let s = c .before .before .before .before .before .before .before .before .before .before in
@@ -623,9 +470,6 @@ returns-16 c =
     let o = c .before .before .before .before .before .op16 .given .0 in
     step-at p b l (model.Fn (o .0) (texts (opAt p (l .pos)))) (s .pre .2) (m .0)
     (c .before .before .declare .ensures)
-
-same-length-16 : tie.Need-same-length-16
-same-length-16 c = search needs
 
 returns-17 : tie.Need-returns-17
 returns-17 c =
@@ -638,9 +482,6 @@ returns-17 c =
     step-at p b l (model.Call (o .0) (o .1 .0)) (s .pre .2) (m .0)
     (c .before .before .call .ensures)
 
-same-length-17 : tie.Need-same-length-17
-same-length-17 c = search needs
-
 returns-18 : tie.Need-returns-18
 returns-18 c =
     let s = c .before .before .before .before .before .before .before .before .before in
@@ -650,9 +491,6 @@ returns-18 c =
     let m = means-at (s .args .program .now) p (s .pre .0) (l .pos) (s .pre .2) (sym (c .before .before .before .before .enum-told .given .1) ∙ c .before .before .before .before .before .before .fetch .ensures) in
     step-at p b l model.FnRet (s .pre .2) m
     (c .before .before .ret .ensures)
-
-same-length-18 : tie.Need-same-length-18
-same-length-18 c = search needs
 
 returns-19 : tie.Need-returns-19
 returns-19 c =
@@ -665,9 +503,6 @@ returns-19 c =
     step-at p b l (model.FnStackPush (o .0)) (s .pre .2) (m .0)
     (c .before .before .push .ensures)
 
-same-length-19 : tie.Need-same-length-19
-same-length-19 c = search needs
-
 returns-20 : tie.Need-returns-20
 returns-20 c =
     let s = c .before .before .before .before .before .before .before .before .before .before in
@@ -679,9 +514,6 @@ returns-20 c =
     step-at p b l (model.FnStackPop (o .0)) (s .pre .2) (m .0)
     (c .before .before .pop .ensures)
 
-same-length-20 : tie.Need-same-length-20
-same-length-20 c = search needs
-
 returns-21 : tie.Need-returns-21
 returns-21 c =
     let s = c .before .before .before .before .before .before .before .before .before .before .before in
@@ -692,9 +524,6 @@ returns-21 c =
     let o = c .before .before .before .before .before .before .op20 .given .0 in
     step-at p b l (model.Tbli (o .0) (o .1 .0) (o .1 .1 .0)) (s .pre .2) (m .0)
     (stores-law b l (s .pre .1 .holds) (c .before .before .before .tbli .ensures) (c .stepped8 .ensures))
-
-same-length-21 : tie.Need-same-length-21
-same-length-21 c = search needs
 
 returns-22 : tie.Need-returns-22
 returns-22 c =
@@ -738,118 +567,26 @@ returns-25 c =
 
 pub execute-spec : {M : Type 1} → statement M
 execute-spec =
-    tie.close
-    (tie.spec
-    fetch-requires
-    enum-known-op
-    binop-requires
-    loads-requires
-    enum-known-op-2
-    unop-requires
-    loads-requires-2
-    enum-known-op-3
-    loadc-requires
-    stepped-requires
-    enum-known-op-4
-    loadn-requires
-    stepped-requires-2
-    enum-known-op-5
-    mv-requires
-    stepped-requires-3
-    enum-known-op-6
-    loadarrs-requires
-    loads-requires-3
-    enum-known-op-7
-    loadarrv-requires
-    loads-requires-4
-    enum-known-op-8
-    newarrv-requires
-    stepped-requires-4
-    enum-known-op-9
-    storec-requires
-    stepped-requires-5
-    enum-known-op-10
-    slot-requires
-    store-requires
-    stepped-requires-6
-    enum-known-op-11
-    reg-requires
-    store-requires-2
-    stepped-requires-7
-    enum-known-op-12
-    branch-requires
-    enum-known-op-13
-    jump-requires
-    enum-known-op-14
-    incrr-requires
-    loads-requires-5
-    enum-known-op-15
-    decrr-requires
-    loads-requires-6
-    enum-known-op-16
-    declare-requires
-    enum-known-op-17
-    call-requires
-    enum-told
-    ret-requires
-    enum-known-op-18
-    push-requires
-    enum-known-op-19
-    pop-requires
-    enum-known-op-20
-    tbli-requires
-    stepped-requires-8
-    enum-known-op-21
-    tblg-requires
-    stepped-requires-9
-    enum-told-2
-    on-requires
-    enum-told-3
-    on-requires-2
-    enum-told-4
-    same-length
-    returns
-    same-length-2
-    returns-2
-    same-length-3
-    returns-3
-    same-length-4
-    returns-4
-    same-length-5
-    returns-5
-    same-length-6
-    returns-6
-    same-length-7
-    returns-7
-    same-length-8
-    returns-8
-    same-length-9
-    returns-9
-    same-length-10
-    returns-10
-    same-length-11
-    returns-11
-    same-length-12
-    returns-12
-    returns-13
-    same-length-13
-    returns-14
-    same-length-14
-    returns-15
-    same-length-15
-    returns-16
-    same-length-16
-    returns-17
-    same-length-17
-    returns-18
-    same-length-18
-    returns-19
-    same-length-19
-    returns-20
-    same-length-20
-    returns-21
-    same-length-21
-    returns-22
-    returns-23
-    returns-24
+    tie.close (tie.spec (λ c κs. search needs) (λ c. search needs) binop-requires loads-requires
+    (λ c. search needs) unop-requires loads-requires-2 (λ c. search needs) loadc-requires
+    (λ c κs. search needs) (λ c. search needs) loadn-requires (λ c κs. search needs)
+    (λ c. search needs) mv-requires (λ c κs. search needs) (λ c. search needs) loadarrs-requires
+    loads-requires-3 (λ c. search needs) loadarrv-requires loads-requires-4 (λ c. search needs)
+    newarrv-requires (λ c κs. search needs) (λ c. search needs) storec-requires
+    (λ c κs. search needs) (λ c. search needs) slot-requires store-requires
+    (λ c κs. search needs) (λ c. search needs) reg-requires store-requires-2
+    (λ c κs. search needs) (λ c. search needs) branch-requires (λ c. search needs) jump-requires
+    (λ c. search needs) incrr-requires loads-requires-5 (λ c. search needs) decrr-requires
+    loads-requires-6 (λ c. search needs) declare-requires (λ c. search needs) call-requires
+    enum-told ret-requires (λ c. search needs) push-requires (λ c. search needs) pop-requires
+    (λ c. search needs) tbli-requires (λ c κs. search needs) (λ c. search needs) tblg-requires
+    (λ c κs. search needs) (λ c. search needs) (λ c κs. search needs) (λ c. search needs)
+    (λ c κs. search needs) (λ c. search needs) (λ c. search needs) returns (λ c. search needs)
+    returns-2 (λ c. search needs) returns-3 (λ c. search needs) returns-4 (λ c. search needs)
+    returns-5 (λ c. search needs) returns-6 (λ c. search needs) returns-7 (λ c. search needs)
+    returns-8 (λ c. search needs) returns-9 (λ c. search needs) returns-10 (λ c. search needs)
+    returns-11 (λ c. search needs) returns-12 returns-13 (λ c. search needs) returns-14
+    (λ c. search needs) returns-15 (λ c. search needs) returns-16 (λ c. search needs) returns-17
+    (λ c. search needs) returns-18 (λ c. search needs) returns-19 (λ c. search needs) returns-20
+    (λ c. search needs) returns-21 (λ c. search needs) returns-22 returns-23 returns-24
     returns-25)

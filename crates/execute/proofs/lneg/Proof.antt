@@ -1,5 +1,5 @@
 -- `execute::lneg` meets its contract. Assumes nothing.
-use mathlib.Core.Path.{_≡_, refl, sym, ap, _∙_}
+use mathlib.Core.Path.{sym, ap, _∙_}
 use mathlib.Core.Option.{Option}
 use Rattle.sifv.specs.Value.{Value}
 use Rattle.sifv.specs.inner.Seen.{seen, kindIn}
@@ -11,14 +11,8 @@ use borrow.Author.Needs.{needs}
 use Rattle.execute.proofs.lneg.Statement.{statement}
 use Rattle.execute.proofs.lneg.Tie as tie
 
-reg-requires : tie.Need-reg-requires
-reg-requires c κs = search needs
-
 kind-at-requires : tie.Need-kind-at-requires
 kind-at-requires c κs = reg-formed (c .before .before .args .state .now) (c .before .before .pre .0) (c .before .before .args .src1) (c .before .before .pre .1) (c .reg .ensures)
-
-ty-mismatch-requires : tie.Need-ty-mismatch-requires
-ty-mismatch-requires c κs = search needs
 
 returns : tie.Need-returns
 returns c = lneg-off (regsOf (c .before .before .before .before .before .args .state .now) (c .before .before .before .before .before .args .src1)) (c .before .before .kind-at .ensures ∙ ap (λ (o : Option Value). kindIn (seen o)) (reg-value (c .before .before .before .before .before .args .state .now) (c .before .before .before .before .before .pre .0) (c .before .before .before .before .before .args .src1) (c .before .before .before .before .before .pre .1) (c .before .before .before .reg .ensures))) (c .before .if1 .taken) (ap got.Err (c .ty-mismatch .ensures))
@@ -26,20 +20,10 @@ returns c = lneg-off (regsOf (c .before .before .before .before .before .args .s
 truth-at-requires : tie.Need-truth-at-requires
 truth-at-requires c κs = let f = reg-formed (c .before .before .before .before .args .state .now) (c .before .before .before .before .pre .0) (c .before .before .before .before .args .src1) (c .before .before .before .before .pre .1) (c .before .before .reg .ensures) in (f .0, f .1, sym (c .before .kind-at .ensures) ∙ c .if1 .left)
 
-pack-requires : tie.Need-pack-requires
-pack-requires c κs = search needs
-
 returns-2 : tie.Need-returns-2
 returns-2 c = lneg-on (sym (reg-value (c .before .before .before .before .before .before .args .state .now) (c .before .before .before .before .before .before .pre .0) (c .before .before .before .before .before .before .args .src1) (c .before .before .before .before .before .before .pre .1) (c .before .before .before .before .reg .ensures)) ∙ c .before .truth-at .ensures) (ap got.Ok (c .pack .ensures))
 
 pub lneg-spec : {M : Type 1} → statement M
 lneg-spec =
-    tie.close
-    (tie.spec
-    reg-requires
-    kind-at-requires
-    ty-mismatch-requires
-    returns
-    truth-at-requires
-    pack-requires
-    returns-2)
+    tie.close (tie.spec (λ c κs. search needs) kind-at-requires (λ c κs. search needs) returns
+    truth-at-requires (λ c κs. search needs) returns-2)

@@ -1,5 +1,5 @@
 -- `execute::loadarrs` meets its contract. Assumes nothing.
-use mathlib.Core.Path.{_≡_, refl, sym, ap, _∙_}
+use mathlib.Core.Path.{sym, ap, _∙_}
 use mathlib.Core.Option.{Option}
 use Rattle.sifv.specs.Value.{Value}
 use Rattle.sifv.specs.inner.Seen.{seen, kindIn}
@@ -17,14 +17,8 @@ use borrow.Author.Needs.{needs}
 use Rattle.execute.proofs.loadarrs.Statement.{statement}
 use Rattle.execute.proofs.loadarrs.Tie as tie
 
-slot-requires : tie.Need-slot-requires
-slot-requires c κs = search needs
-
 kind-at-requires : tie.Need-kind-at-requires
 kind-at-requires c κs = name-formed (c .before .before .args .state .now) (c .before .before .pre .0) (c .before .before .args .name) (c .before .before .pre .1) (c .slot .ensures)
-
-no-array-requires : tie.Need-no-array-requires
-no-array-requires c κs = search needs
 
 returns : tie.Need-returns
 returns c = size-off (namesOf (c .before .before .before .before .before .args .state .now)) (c .before .before .before .before .before .args .name) (c .before .before .kind-at .ensures ∙ ap (λ (o : Option Value). kindIn (seen o)) (name-value (c .before .before .before .before .before .args .state .now) (c .before .before .before .before .before .pre .0) (c .before .before .before .before .before .args .name) (c .before .before .before .before .before .pre .1) (c .before .before .before .slot .ensures))) (c .before .if1 .taken) (ap got.Err (c .no-array .ensures))
@@ -36,21 +30,10 @@ int-to-float-t9 : tie.Need-int-to-float-t9
 unfolding inFloat
 int-to-float-t9 c = le→leb (c .before .len-at .result) (2 ^ 53) (let l = arr-len (part (c .before .before .before .before .before .before .args .state .now) (c .before .before .before .before .slot .result) 256) ((name-formed (c .before .before .before .before .before .before .args .state .now) (c .before .before .before .before .before .before .pre .0) (c .before .before .before .before .before .before .args .name) (c .before .before .before .before .before .before .pre .1) (c .before .before .before .before .slot .ensures)) .1) (sym (c .before .before .before .kind-at .ensures) ∙ c .before .before .if1 .left) (c .before .len-at .ensures) in omega (arith, l .1))
 
-pack-requires : tie.Need-pack-requires
-pack-requires c κs = search needs
-
 returns-2 : tie.Need-returns-2
 returns-2 c = size-in (namesOf (c .before .before .before .before .before .before .before .args .state .now)) (c .before .before .before .before .before .before .before .args .name) (part (c .before .before .before .before .before .before .before .args .state .now) (c .before .before .before .before .before .slot .result) 256) ((name-formed (c .before .before .before .before .before .before .before .args .state .now) (c .before .before .before .before .before .before .before .pre .0) (c .before .before .before .before .before .before .before .args .name) (c .before .before .before .before .before .before .before .pre .1) (c .before .before .before .before .before .slot .ensures)) .1) (sym (c .before .before .before .before .kind-at .ensures) ∙ c .before .before .before .if1 .left) (name-value (c .before .before .before .before .before .before .before .args .state .now) (c .before .before .before .before .before .before .before .pre .0) (c .before .before .before .before .before .before .before .args .name) (c .before .before .before .before .before .before .before .pre .1) (c .before .before .before .before .before .slot .ensures)) (c .before .before .len-at .ensures) (ap got.Ok (c .pack .ensures))
 
 pub loadarrs-spec : {M : Type 1} → statement M
 loadarrs-spec =
-    tie.close
-    (tie.spec
-    slot-requires
-    kind-at-requires
-    no-array-requires
-    returns
-    len-at-requires
-    int-to-float-t9
-    pack-requires
-    returns-2)
+    tie.close (tie.spec (λ c κs. search needs) kind-at-requires (λ c κs. search needs) returns
+    len-at-requires int-to-float-t9 (λ c κs. search needs) returns-2)

@@ -1,5 +1,5 @@
 -- `execute::loadarrv` meets its contract. Assumes nothing.
-use mathlib.Core.Path.{_≡_, refl, sym, ap, _∙_}
+use mathlib.Core.Path.{sym, ap, _∙_}
 use mathlib.Core.Option.{Option}
 use Rattle.sifv.specs.Value.{Value}
 use Rattle.sifv.specs.inner.Seen.{seen, kindIn}
@@ -11,39 +11,22 @@ use borrow.Author.Needs.{needs}
 use Rattle.execute.proofs.loadarrv.Statement.{statement}
 use Rattle.execute.proofs.loadarrv.Tie as tie
 
-reg-requires : tie.Need-reg-requires
-reg-requires c κs = search needs
-
 kind-at-requires : tie.Need-kind-at-requires
 kind-at-requires c κs = let s = c .before .before in reg-formed (s .args .state .now) (s .pre .0) (s .args .idx) (s .pre .2) (c .reg .ensures)
-
-ty-mismatch-requires : tie.Need-ty-mismatch-requires
-ty-mismatch-requires c κs = search needs
 
 returns : tie.Need-returns
 returns c = let s = c .before .before .before .before .before in loadarrv-off (namesOf (s .args .state .now)) (s .args .name) (regsOf (s .args .state .now) (s .args .idx)) (c .before .before .kind-at .ensures ∙ ap (λ (o : Option Value). kindIn (seen o)) (reg-value (s .args .state .now) (s .pre .0) (s .args .idx) (s .pre .2) (c .before .before .before .reg .ensures))) (c .before .if1 .taken) (ap got.Err (c .ty-mismatch .ensures))
 
 number-at-requires : tie.Need-number-at-requires
-number-at-requires c κs = let s = c .before .before .before .before in let f = (reg-formed (s .args .state .now) (s .pre .0) (s .args .idx) (s .pre .2) (c .before .before .reg .ensures)) in (f .0, f .1, sym (c .before .kind-at .ensures) ∙ c .if1 .left)
-
-index-of-requires : tie.Need-index-of-requires
-index-of-requires c κs = search needs
-
-item-requires : tie.Need-item-requires
-item-requires c κs = search needs
+number-at-requires c κs =
+    let s = c .before .before .before .before in
+    let f = (reg-formed (s .args .state .now) (s .pre .0) (s .args .idx) (s .pre .2) (c .before .before .reg .ensures)) in
+    (f .0, f .1, sym (c .before .kind-at .ensures) ∙ c .if1 .left)
 
 returns-2 : tie.Need-returns-2
 returns-2 c = let s = c .before .before .before .before .before .before .before in loadarrv-at (namesOf (s .args .state .now)) (s .args .name) (regsOf (s .args .state .now) (s .args .idx)) (sym (reg-value (s .args .state .now) (s .pre .0) (s .args .idx) (s .pre .2) (c .before .before .before .before .before .reg .ensures)) ∙ c .before .before .number-at .ensures) (c .before .index-of .ensures) (c .item .ensures)
 
 pub loadarrv-spec : {M : Type 1} → statement M
 loadarrv-spec =
-    tie.close
-    (tie.spec
-    reg-requires
-    kind-at-requires
-    ty-mismatch-requires
-    returns
-    number-at-requires
-    index-of-requires
-    item-requires
-    returns-2)
+    tie.close (tie.spec (λ c κs. search needs) kind-at-requires (λ c κs. search needs) returns
+    number-at-requires (λ c κs. search needs) (λ c κs. search needs) returns-2)

@@ -10,43 +10,39 @@ use Rattle.execute.proofs.loadc.Statement.{statement}
 use Rattle.execute.proofs.loadc.Tie as tie
 use Rattle.opc.specs.inner.Fetch.{recordAt}
 
-reg-requires : tie.Need-reg-requires
-reg-requires c κs = search needs
-
-kind-of-requires : tie.Need-kind-of-requires
-kind-of-requires c κs = search needs
-
 stored-requires : tie.Need-stored-requires
-stored-requires c κs = let s = c .before .before .before .before .before .before in let b = s .args .program .now in let k = s .args .val in (omega (arith, s .pre .0), s .pre .3, literal-single b k (s .pre .4) (subst (λ (x : ℕ). x < 5) (c .before .before .kind-of .ensures) (c .before .if1 .taken)) .0)
+stored-requires c κs =
+    let s = c .before .before .before .before .before .before in
+    let b = s .args .program .now in
+    let k = s .args .val in
+    (omega (arith, s .pre .0), s .pre .3, literal-single b k (s .pre .4) (subst (λ (x : ℕ). x < 5) (c .before .before .kind-of .ensures) (c .before .if1 .taken)) .0)
 
 put-requires : tie.Need-put-requires
 put-requires c κs = let s = c .before .before .before .before .before .before .before in reg-formed (s .args .state .now) (s .pre .1) (s .args .dest) (s .pre .2) (c .before .before .before .before .reg .ensures)
 
-same-length : tie.Need-same-length
-same-length c = search needs
-
 returns : tie.Need-returns
-returns c = let s = c .before .before .before .before .before .before .before .before .before .before in let b = s .args .program .now in let k = s .args .val in literal-reg (s .args .state .now) b k (s .pre .4) refl (stored-put (singleOf (recordAt b k .kind) (recordAt b k .word)) (s .args .state .now) (c .before .before .before .before .before .before .before .reg .result) (c .before .before .before .stored .ensures) (literal-single b k (s .pre .4) (subst (λ (x : ℕ). x < 5) (c .before .before .before .before .before .before .kind-of .ensures) (c .before .before .before .before .before .if1 .taken)) .1) (c .before .before .put .ensures)) (s .args .dest) (c .before .before .before .before .before .before .before .reg .ensures)
+returns c =
+    let s = c .before .before .before .before .before .before .before .before .before .before in
+    let b = s .args .program .now in
+    let k = s .args .val in
+    literal-reg (s .args .state .now) b k (s .pre .4) refl (stored-put (singleOf (recordAt b k .kind) (recordAt b k .word)) (s .args .state .now) (c .before .before .before .before .before .before .before .reg .result) (c .before .before .before .stored .ensures) (literal-single b k (s .pre .4) (subst (λ (x : ℕ). x < 5) (c .before .before .before .before .before .before .kind-of .ensures) (c .before .before .before .before .before .if1 .taken)) .1) (c .before .before .put .ensures)) (s .args .dest) (c .before .before .before .before .before .before .before .reg .ensures)
 
 put-contents-requires : tie.Need-put-contents-requires
-put-contents-requires c κs = let s = c .before .before .before .before .before .before in let b = s .args .program .now in let k = s .args .val in let f = reg-formed (s .args .state .now) (s .pre .1) (s .args .dest) (s .pre .2) (c .before .before .before .reg .ensures) in (s .pre .0, f .0, f .1, s .pre .3, s .pre .4, λ z. omega (arith, c .before .if1 .left, c .before .before .kind-of .ensures, z))
-
-same-length-2 : tie.Need-same-length-2
-same-length-2 c = search needs
+put-contents-requires c κs =
+    let s = c .before .before .before .before .before .before in
+    let b = s .args .program .now in
+    let k = s .args .val in
+    let f = reg-formed (s .args .state .now) (s .pre .1) (s .args .dest) (s .pre .2) (c .before .before .before .reg .ensures) in
+    (s .pre .0, f .0, f .1, s .pre .3, s .pre .4, λ z. omega (arith, c .before .if1 .left, c .before .before .kind-of .ensures, z))
 
 returns-2 : tie.Need-returns-2
-returns-2 c = let s = c .before .before .before .before .before .before .before .before .before in let b = s .args .program .now in let k = s .args .val in literal-reg (s .args .state .now) b k (s .pre .4) refl (c .before .before .put-contents .ensures) (s .args .dest) (c .before .before .before .before .before .before .reg .ensures)
+returns-2 c =
+    let s = c .before .before .before .before .before .before .before .before .before in
+    let b = s .args .program .now in
+    let k = s .args .val in
+    literal-reg (s .args .state .now) b k (s .pre .4) refl (c .before .before .put-contents .ensures) (s .args .dest) (c .before .before .before .before .before .before .reg .ensures)
 
 pub loadc-spec : {M : Type 1} → statement M
 loadc-spec =
-    tie.close
-    (tie.spec
-    reg-requires
-    kind-of-requires
-    stored-requires
-    put-requires
-    same-length
-    returns
-    put-contents-requires
-    same-length-2
-    returns-2)
+    tie.close (tie.spec (λ c κs. search needs) (λ c κs. search needs) stored-requires put-requires
+    (λ c. search needs) returns put-contents-requires (λ c. search needs) returns-2)

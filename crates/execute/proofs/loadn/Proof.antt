@@ -1,5 +1,5 @@
 -- `execute::loadn` meets its contract. Assumes nothing.
-use mathlib.Core.Path.{_≡_, refl, sym, ap, _∙_}
+use mathlib.Core.Path.{refl, ap}
 use Prim.Native.Nat.{_+_, _*_}
 use native.Mathlib.Omega.{arith}
 use Rattle.execute.specs.laws.Acts.{name-formed, reg-formed, loadn-none, loadn-some}
@@ -8,27 +8,12 @@ use borrow.Author.Needs.{needs}
 use Rattle.execute.proofs.loadn.Statement.{statement}
 use Rattle.execute.proofs.loadn.Tie as tie
 
-slot-requires : tie.Need-slot-requires
-slot-requires c κs = search needs
-
 kind-at-requires : tie.Need-kind-at-requires
 kind-at-requires c κs = let s = c .before .before .before in name-formed (s .args .state .now) (s .pre .0) (s .args .name) (s .pre .2) (c .slot .ensures)
-
-invalid-name-requires : tie.Need-invalid-name-requires
-invalid-name-requires c κs = search needs
-
-same-length : tie.Need-same-length
-same-length c = search needs
 
 returns : tie.Need-returns
 returns c = let s = c .before .before .before .before .before .before in
     loadn-none (s .args .state .now) (s .pre .0) (s .args .name) (0 + s .args .dest * 256) (s .pre .2) (c .before .before .before .slot .ensures) (c .before .before .kind-at .ensures) (c .before .if1 .taken) (ap did.Err (c .invalid-name .ensures)) refl
-
-slot-requires-2 : tie.Need-slot-requires-2
-slot-requires-2 c κs = search needs
-
-reg-requires : tie.Need-reg-requires
-reg-requires c κs = search needs
 
 move-to-requires : tie.Need-move-to-requires
 move-to-requires c κs = let s = c .before .before .before .before .before .before .before .before in
@@ -36,24 +21,12 @@ move-to-requires c κs = let s = c .before .before .before .before .before .befo
     let t = reg-formed (s .args .state .now) (s .pre .0) (s .args .dest) (s .pre .1) (c .reg .ensures) in
     (f .0, t .0, omega (arith, c .before .slot2 .ensures, c .reg .ensures), f .1, t .1)
 
-same-length-2 : tie.Need-same-length-2
-same-length-2 c = search needs
-
 returns-2 : tie.Need-returns-2
 returns-2 c = let s = c .before .before .before .before .before .before .before .before .before .before .before in
     loadn-some (s .args .state .now) (s .pre .0) (s .args .name) (0 + s .args .dest * 256) (s .pre .2) (c .before .before .before .before .before .before .before .before .slot .ensures) (c .before .before .before .before .before .before .before .kind-at .ensures) (c .before .before .before .before .before .before .if1 .left) (c .before .before .before .before .slot2 .ensures) (c .before .before .before .reg .ensures) refl (c .before .before .move-to .ensures)
 
 pub loadn-spec : {M : Type 1} → statement M
 loadn-spec =
-    tie.close
-    (tie.spec
-    slot-requires
-    kind-at-requires
-    invalid-name-requires
-    same-length
-    returns
-    slot-requires-2
-    reg-requires
-    move-to-requires
-    same-length-2
-    returns-2)
+    tie.close (tie.spec (λ c κs. search needs) kind-at-requires (λ c κs. search needs)
+    (λ c. search needs) returns (λ c κs. search needs) (λ c κs. search needs) move-to-requires
+    (λ c. search needs) returns-2)

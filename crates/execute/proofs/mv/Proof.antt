@@ -1,29 +1,18 @@
 use Prim.Native.Nat.{_+_, _*_}
 -- `execute::mv` meets its contract. Assumes nothing.
-use mathlib.Core.Path.{refl, subst}
-use Prim.Native.Nat.{ℕ}
+use mathlib.Core.Path.{refl}
 use native.Mathlib.Omega.{arith}
-use Rattle.vm.specs.Operation.{Ok}
-use Rattle.execute.specs.inner.View.{regsOf, Wrote}
+use Rattle.execute.specs.inner.View.{regsOf}
 use Rattle.execute.specs.laws.Acts.{reg-formed, reg-bytes, wrote-moved}
 use borrow.Author.Needs.{needs}
 use Rattle.execute.proofs.mv.Statement.{statement}
 use Rattle.execute.proofs.mv.Tie as tie
-
-reg-requires : tie.Need-reg-requires
-reg-requires c κs = search needs
-
-reg-requires-2 : tie.Need-reg-requires-2
-reg-requires-2 c κs = search needs
 
 move-to-requires : tie.Need-move-to-requires
 move-to-requires c κs = let s = c .before .before .before .before in
     let f = reg-formed (s .args .state .now) (s .pre .0) (s .args .src) (s .pre .1) (c .before .reg .ensures) in
     let t = reg-formed (s .args .state .now) (s .pre .0) (s .args .dest) (s .pre .2) (c .reg2 .ensures) in
     (f .0, t .0, omega (arith, c .before .reg .ensures, c .reg2 .ensures), f .1, t .1)
-
-same-length : tie.Need-same-length
-same-length c = search needs
 
 returns : tie.Need-returns
 returns c = let s = c .before .before .before .before .before .before .before in
@@ -32,4 +21,4 @@ returns c = let s = c .before .before .before .before .before .before .before in
     (reg-bytes b (s .pre .0) (s .args .src) (s .pre .1) (c .before .before .before .before .reg .ensures)) (c .before .before .before .reg2 .ensures) refl (c .before .before .move-to .ensures)
 
 pub mv-spec : {M : Type 1} → statement M
-mv-spec = tie.close (tie.spec reg-requires reg-requires-2 move-to-requires same-length returns)
+mv-spec = tie.close (tie.spec (λ c κs. search needs) (λ c κs. search needs) move-to-requires (λ c. search needs) returns)

@@ -4,17 +4,11 @@ use borrow.Author.Needs.{needs}
 use Rattle.execute.proofs.no_array.Statement.{statement}
 use Rattle.execute.proofs.no_array.Tie as tie
 
-invalid-name-requires : tie.Need-invalid-name-requires
-invalid-name-requires c κs = search needs
-
 returns : tie.Need-returns
 returns c = rw (eq-eqb (c .before .before .args .kind) 0 (c .before .if1 .taken)) (c .invalid-name .ensures)
-
-not-an-array-requires : tie.Need-not-an-array-requires
-not-an-array-requires c κs = search needs
 
 returns-2 : tie.Need-returns-2
 returns-2 c = rw (ne-eqb (c .before .before .args .kind) 0 (c .before .if1 .left)) (c .not-an-array .ensures)
 
 pub no-array-spec : {M : Type 1} → statement M
-no-array-spec = tie.close (tie.spec invalid-name-requires returns not-an-array-requires returns-2)
+no-array-spec = tie.close (tie.spec (λ c κs. search needs) returns (λ c κs. search needs) returns-2)

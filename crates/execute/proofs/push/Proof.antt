@@ -1,5 +1,5 @@
 -- `execute::push` meets its contract. Assumes nothing.
-use mathlib.Core.Path.{_≡_, refl, sym, ap, _∙_}
+use mathlib.Core.Path.{refl, ap}
 use native.Mathlib.Omega.{arith}
 use Rattle.execute.specs.laws.Acts.{reg-formed}
 use Rattle.execute.specs.laws.Stacks.{pushed-none, pushed-full, pushed-on}
@@ -8,69 +8,26 @@ use borrow.Author.Needs.{needs}
 use Rattle.execute.proofs.push.Statement.{statement}
 use Rattle.execute.proofs.push.Tie as tie
 
-reg-requires : tie.Need-reg-requires
-reg-requires c κs = search needs
-
 kind-at-requires : tie.Need-kind-at-requires
 kind-at-requires c κs = let s = c .before .before .before in reg-formed (s .args .state .now) (s .pre .0) (s .args .src) (s .pre .4) (c .before .reg .ensures)
-
-empty-register-requires : tie.Need-empty-register-requires
-empty-register-requires c κs = search needs
-
-same-length : tie.Need-same-length
-same-length c = search needs
 
 returns : tie.Need-returns
 returns c = let s = c .before .before .before .before .before .before in pushed-none (s .args .state .now) (s .args .loc) (s .pre .1) (s .pre .0) (s .args .src) (s .pre .4) (c .before .before .before .before .reg .ensures) (c .before .before .kind-at .ensures) (c .before .if1 .taken) (ap step.Stops (c .empty-register .ensures)) refl
 
-stack-full-requires : tie.Need-stack-full-requires
-stack-full-requires c κs = search needs
-
-same-length-2 : tie.Need-same-length-2
-same-length-2 c = search needs
-
 returns-2 : tie.Need-returns-2
 returns-2 c = let s = c .before .before .before .before .before .before .before in pushed-full (s .args .state .now) (s .args .loc) (s .pre .1) (s .pre .0) (s .args .src) (s .pre .4) (c .before .before .before .before .before .reg .ensures) (c .before .before .before .kind-at .ensures) (c .before .before .if1 .left) (c .before .if2 .taken) (ap step.Stops (c .stack-full .ensures)) refl
-
-mul-move-to : tie.Need-mul-move-to
-mul-move-to c = search needs
-
-add-move-to : tie.Need-add-move-to
-add-move-to c = search needs
 
 move-to-requires : tie.Need-move-to-requires
 move-to-requires c κs = let s = c .before .before .before .before .before .before .before in
     let f = reg-formed (s .args .state .now) (s .pre .0) (s .args .src) (s .pre .4) (c .before .before .before .before .before .reg .ensures) in
     (f .0, omega (arith, s .pre .0 .room, c .before .if2 .left), omega (arith, c .before .before .before .before .before .reg .ensures), f .1, s .pre .0 .stack (s .args .loc .depth) (c .before .if2 .left))
 
-add-t15 : tie.Need-add-t15
-add-t15 c = search needs
-
-add-t16 : tie.Need-add-t16
-add-t16 c = search needs
-
-same-length-3 : tie.Need-same-length-3
-same-length-3 c = search needs
-
 returns-3 : tie.Need-returns-3
 returns-3 c = let s = c .before .before .before .before .before .before .before .before .before .before .before in pushed-on (s .args .state .now) (s .args .loc) (s .pre .1) (s .pre .0) (s .args .src) (s .pre .4) (c .before .before .before .before .before .before .before .before .before .reg .ensures) (c .before .before .before .before .before .before .before .kind-at .ensures) (c .before .before .before .before .before .before .if1 .left) (c .before .before .before .before .before .if2 .left) refl (c .before .before .before .move-to .ensures)
 
 pub push-spec : {M : Type 1} → statement M
 push-spec =
-    tie.close
-    (tie.spec
-    reg-requires
-    kind-at-requires
-    empty-register-requires
-    same-length
-    returns
-    stack-full-requires
-    same-length-2
-    returns-2
-    mul-move-to
-    add-move-to
-    move-to-requires
-    add-t15
-    add-t16
-    same-length-3
-    returns-3)
+    tie.close (tie.spec (λ c κs. search needs) kind-at-requires (λ c κs. search needs)
+    (λ c. search needs) returns (λ c κs. search needs) (λ c. search needs) returns-2
+    (λ c. search needs) (λ c. search needs) move-to-requires (λ c. search needs)
+    (λ c. search needs) (λ c. search needs) returns-3)

@@ -1,7 +1,7 @@
 -- `execute::put_array` meets its contract. Assumes nothing.
-use mathlib.Core.Path.{_≡_, refl, sym, ap, _∙_}
+use mathlib.Core.Path.{_≡_, refl, _∙_}
 use mathlib.Core.List.{[]}
-use Prim.Native.Nat.{ℕ, _+_, _-_, _*_, _≤_}
+use Prim.Native.Nat.{_+_, _-_, _*_, _≤_}
 use native.Mathlib.Omega.{arith}
 use lib.ListN.{length, take, drop, set, length-set}
 use Rattle.lent.specs.Bytes.{splice}
@@ -19,17 +19,11 @@ Inv-loop program state₀ at len first n start i₀ state i = (i ≤ len) × (st
 abbrev μ-loop : tie.MeasureT-loop
 μ-loop program state₀ at len first n start i₀ state i = len - i
 
-zero-requires : tie.Need-zero-requires Inv-loop μ-loop
-zero-requires c κs = c .before .before .before .pre .1
-
 slice-write-state : tie.Need-slice-write-state Inv-loop μ-loop
 slice-write-state c = omega (arith, c .before .before .zero .kept .0, c .before .before .before .before .before .before .pre .1)
 
 cast-state : tie.Need-cast-state Inv-loop μ-loop
 cast-state c = omega (arith, c .before .before .before .before .before .before .pre .2 .few)
-
-add-state : tie.Need-add-state Inv-loop μ-loop
-add-state c = search needs
 
 slice-write-state-2 : tie.Need-slice-write-state-2 Inv-loop μ-loop
 slice-write-state-2 c = simp length-set (omega (arith, c .before .before .zero .kept .0, c .before .before .before .before .before .before .pre .1))
@@ -50,7 +44,11 @@ loop-less : tie.Need-loop-less Inv-loop μ-loop
 loop-less c = omega (arith, c .before .before .before .before .loop-test .taken)
 
 loop-again : tie.Need-loop-again Inv-loop μ-loop
-loop-again c = let f = fill-start (c .before .before .before .before .before .before .before .before .before .before .before .before .args .state .now) (c .before .before .before .before .before .before .before .before .before .before .before .before .args .at) 5 (c .before .before .before .before .before .before .before .before .before .before .before .before .args .len) (c .before .before .before .before .before .before .before .before .before .before .before .before .pre .1) (c .before .before .before .before .before .before .before .before .zero .ensures) refl refl in let m = items-length (c .before .before .before .before .before .before .before .before .before .before .before .before .pre .2) in let t = fill-turn (set (set (c .before .before .before .before .before .before .before .before .zero .last .0) (c .before .before .before .before .before .before .before .before .before .before .before .before .args .at) 5) (c .before .before .before .before .before .before .before .before .before .before .before .before .args .at + 1) (c .before .before .before .before .before .before .before .before .before .before .before .before .args .len)) (c .before .before .before .before .before .before .before .before .before .before .before .before .args .at) 5 (c .before .before .before .before .before .before .before .before .before .before .before .before .args .len) (c .before .before .before .before .before .loop .i) (orNone (itemList (c .before .before .before .before .before .before .before .before .before .before .before .before .args .len) (drop (c .before .before .before .before .before .before .before .before .before .before .before .before .args .first * 16) (poolOf (c .before .before .before .before .before .before .before .before .before .before .before .before .args .program .now))))) (omega (arith, c .before .before .before .before .before .before .before .before .before .before .before .before .pre .1, f .long)) (omega (arith, m, c .before .before .before .before .loop-test .taken)) (omega (arith, c .before .before .before .before .before .before .before .before .before .before .before .before .pre .2 .few, c .before .before .before .before .loop-test .taken)) (c .before .before .before .before .before .loop .inv .1) (pool-entry (c .before .before .before .before .before .before .before .before .before .before .before .before .args .program .now) (c .before .before .before .before .before .before .before .before .before .before .before .before .args .len) (c .before .before .before .before .before .before .before .before .before .before .before .before .args .first) (c .before .before .before .before .before .loop .i) (c .before .before .before .before .before .before .before .before .before .before .before .before .pre .2) (c .before .before .before .before .loop-test .taken) .1) (c .before .before .put-item .ensures) in (omega (arith, c .before .before .before .before .loop-test .taken), t .0, t .1)
+loop-again c =
+    let f = fill-start (c .before .before .before .before .before .before .before .before .before .before .before .before .args .state .now) (c .before .before .before .before .before .before .before .before .before .before .before .before .args .at) 5 (c .before .before .before .before .before .before .before .before .before .before .before .before .args .len) (c .before .before .before .before .before .before .before .before .before .before .before .before .pre .1) (c .before .before .before .before .before .before .before .before .zero .ensures) refl refl in
+    let m = items-length (c .before .before .before .before .before .before .before .before .before .before .before .before .pre .2) in
+    let t = fill-turn (set (set (c .before .before .before .before .before .before .before .before .zero .last .0) (c .before .before .before .before .before .before .before .before .before .before .before .before .args .at) 5) (c .before .before .before .before .before .before .before .before .before .before .before .before .args .at + 1) (c .before .before .before .before .before .before .before .before .before .before .before .before .args .len)) (c .before .before .before .before .before .before .before .before .before .before .before .before .args .at) 5 (c .before .before .before .before .before .before .before .before .before .before .before .before .args .len) (c .before .before .before .before .before .loop .i) (orNone (itemList (c .before .before .before .before .before .before .before .before .before .before .before .before .args .len) (drop (c .before .before .before .before .before .before .before .before .before .before .before .before .args .first * 16) (poolOf (c .before .before .before .before .before .before .before .before .before .before .before .before .args .program .now))))) (omega (arith, c .before .before .before .before .before .before .before .before .before .before .before .before .pre .1, f .long)) (omega (arith, m, c .before .before .before .before .loop-test .taken)) (omega (arith, c .before .before .before .before .before .before .before .before .before .before .before .before .pre .2 .few, c .before .before .before .before .loop-test .taken)) (c .before .before .before .before .before .loop .inv .1) (pool-entry (c .before .before .before .before .before .before .before .before .before .before .before .before .args .program .now) (c .before .before .before .before .before .before .before .before .before .before .before .before .args .len) (c .before .before .before .before .before .before .before .before .before .before .before .before .args .first) (c .before .before .before .before .before .loop .i) (c .before .before .before .before .before .before .before .before .before .before .before .before .pre .2) (c .before .before .before .before .loop-test .taken) .1) (c .before .before .put-item .ensures) in
+    (omega (arith, c .before .before .before .before .loop-test .taken), t .0, t .1)
 
 same-length : tie.Need-same-length Inv-loop μ-loop
 same-length c = let f = fill-start (c .before .before .before .before .before .before .before .before .args .state .now) (c .before .before .before .before .before .before .before .before .args .at) 5 (c .before .before .before .before .before .before .before .before .args .len) (c .before .before .before .before .before .before .before .before .pre .1) (c .before .before .before .before .zero .ensures) refl refl in c .before .loop .inv .2 ∙ f .long
@@ -60,20 +58,6 @@ returns c = fill-end (c .before .before .before .before .before .before .before 
 
 pub put-array-spec : {M : Type 1} → statement M
 put-array-spec =
-    tie.close
-    (tie.spec
-    Inv-loop
-    μ-loop
-    zero-requires
-    slice-write-state
-    cast-state
-    add-state
-    slice-write-state-2
-    loop-holds
-    add-put-item
-    put-item-requires
-    add-i
-    loop-less
-    loop-again
-    same-length
-    returns)
+    tie.close (tie.spec Inv-loop μ-loop (λ c κs. c .before .before .before .pre .1)
+    slice-write-state cast-state (λ c. search needs) slice-write-state-2 loop-holds add-put-item
+    put-item-requires add-i loop-less loop-again same-length returns)

@@ -11,43 +11,29 @@ use borrow.Author.Needs.{needs}
 use Rattle.execute.proofs.put_contents.Statement.{statement}
 use Rattle.execute.proofs.put_contents.Tie as tie
 
-kind-of-requires : tie.Need-kind-of-requires
-kind-of-requires c κs = search needs
-
-len-of-requires : tie.Need-len-of-requires
-len-of-requires c κs = search needs
-
-word-of-requires : tie.Need-word-of-requires
-word-of-requires c κs = search needs
-
 put-array-requires : tie.Need-put-array-requires
-put-array-requires c κs = let s = c .before .before .before .before .before .before .before in let b = s .args .program .now in let k = s .args .val in (s .pre .0, s .pre .1, pool-read (poolOf b) (literal-array b k (s .pre .4) (sym (c .before .before .before .before .kind-of .ensures) ∙ c .before .before .before .if1 .taken) .0) (c .before .len-of .ensures) (c .word-of .ensures))
-
-same-length : tie.Need-same-length
-same-length c = search needs
+put-array-requires c κs =
+    let s = c .before .before .before .before .before .before .before in
+    let b = s .args .program .now in
+    let k = s .args .val in
+    (s .pre .0, s .pre .1, pool-read (poolOf b) (literal-array b k (s .pre .4) (sym (c .before .before .before .before .kind-of .ensures) ∙ c .before .before .before .if1 .taken) .0) (c .before .len-of .ensures) (c .word-of .ensures))
 
 returns : tie.Need-returns
-returns c = let s = c .before .before .before .before .before .before .before .before .before .before in let b = s .args .program .now in let k = s .args .val in c .before .before .put-array .ensures ∙ ap₂ (λ (n p : ℕ). splice (s .args .state .now) (s .args .at) (encodeSlot (some (arrayAt b n p)))) (c .before .before .before .before .len-of .ensures) (c .before .before .before .word-of .ensures) ∙ ap (λ (v : Value). splice (s .args .state .now) (s .args .at) (encodeSlot (some v))) (sym (literal-array b k (s .pre .4) (sym (c .before .before .before .before .before .before .before .kind-of .ensures) ∙ c .before .before .before .before .before .before .if1 .taken) .1))
-
-set-requires : tie.Need-set-requires
-set-requires c κs = search needs
-
-same-length-2 : tie.Need-same-length-2
-same-length-2 c = search needs
+returns c =
+    let s = c .before .before .before .before .before .before .before .before .before .before in
+    let b = s .args .program .now in
+    let k = s .args .val in
+    c .before .before .put-array .ensures ∙ ap₂ (λ (n p : ℕ). splice (s .args .state .now) (s .args .at) (encodeSlot (some (arrayAt b n p)))) (c .before .before .before .before .len-of .ensures) (c .before .before .before .word-of .ensures) ∙ ap (λ (v : Value). splice (s .args .state .now) (s .args .at) (encodeSlot (some v))) (sym (literal-array b k (s .pre .4) (sym (c .before .before .before .before .before .before .before .kind-of .ensures) ∙ c .before .before .before .before .before .before .if1 .taken) .1))
 
 returns-2 : tie.Need-returns-2
-returns-2 c = let s = c .before .before .before .before .before .before .before .before in let b = s .args .program .now in let k = s .args .val in c .before .before .set .ensures ∙ ap (λ (v : Value). splice (s .args .state .now) (s .args .at) (encodeSlot (some v))) (sym (literal-table b k (s .pre .4) (s .pre .5) (λ z. c .before .before .before .before .if1 .left (c .before .before .before .before .before .kind-of .ensures ∙ z))))
+returns-2 c =
+    let s = c .before .before .before .before .before .before .before .before in
+    let b = s .args .program .now in
+    let k = s .args .val in
+    c .before .before .set .ensures ∙ ap (λ (v : Value). splice (s .args .state .now) (s .args .at) (encodeSlot (some v))) (sym (literal-table b k (s .pre .4) (s .pre .5) (λ z. c .before .before .before .before .if1 .left (c .before .before .before .before .before .kind-of .ensures ∙ z))))
 
 pub put-contents-spec : {M : Type 1} → statement M
 put-contents-spec =
-    tie.close
-    (tie.spec
-    kind-of-requires
-    len-of-requires
-    word-of-requires
-    put-array-requires
-    same-length
-    returns
-    set-requires
-    same-length-2
+    tie.close (tie.spec (λ c κs. search needs) (λ c κs. search needs) (λ c κs. search needs)
+    put-array-requires (λ c. search needs) returns (λ c κs. search needs) (λ c. search needs)
     returns-2)

@@ -1,5 +1,5 @@
 -- `execute::store` meets its contract. Assumes nothing.
-use mathlib.Core.Path.{_≡_, refl, sym, ap, _∙_}
+use mathlib.Core.Path.{refl, sym, ap, _∙_}
 use native.Mathlib.Omega.{arith}
 use mathlib.Core.Option.{some}
 use lib.ListN.{length}
@@ -14,33 +14,18 @@ use borrow.Author.Needs.{needs}
 use Rattle.execute.proofs.store.Statement.{statement}
 use Rattle.execute.proofs.store.Tie as tie
 
-kind-at-requires : tie.Need-kind-at-requires
-kind-at-requires c κs = search needs
-
-slot-requires : tie.Need-slot-requires
-slot-requires c κs = search needs
-
 set-requires : tie.Need-set-requires
 set-requires c κs = let s = c .before .before .before .before .before .before in name-formed (s .args .state .now) (s .pre .0) (s .args .name) (s .pre .1) (c .slot .ensures)
-
-same-length : tie.Need-same-length
-same-length c = search needs
 
 returns : tie.Need-returns
 returns c = let s = c .before .before .before .before .before .before .before .before .before in
     let v = decodeSlot (part (s .args .state .now) (s .args .from) 256) in
     stored-law (s .args .state .now) (s .args .name) v (some (One Null)) (s .pre .1) (null-none v (sym (c .before .before .before .before .before .before .kind-at .ensures) ∙ c .before .before .before .before .before .if1 .taken)) (c .before .before .before .slot .ensures) (length-bare show.Null) refl (c .before .before .set .ensures)
 
-slot-requires-2 : tie.Need-slot-requires-2
-slot-requires-2 c κs = search needs
-
 move-to-requires : tie.Need-move-to-requires
 move-to-requires c κs = let s = c .before .before .before .before .before .before in
     let t = name-formed (s .args .state .now) (s .pre .0) (s .args .name) (s .pre .1) (c .slot2 .ensures) in
     (s .pre .2, t .0, omega (arith, s .pre .4, c .slot2 .ensures), s .pre .3, t .1)
-
-same-length-2 : tie.Need-same-length-2
-same-length-2 c = search needs
 
 returns-2 : tie.Need-returns-2
 returns-2 c = let s = c .before .before .before .before .before .before .before .before .before in
@@ -51,14 +36,6 @@ returns-2 c = let s = c .before .before .before .before .before .before .before 
 
 pub store-spec : {M : Type 1} → statement M
 store-spec =
-    tie.close
-    (tie.spec
-    kind-at-requires
-    slot-requires
-    set-requires
-    same-length
-    returns
-    slot-requires-2
-    move-to-requires
-    same-length-2
+    tie.close (tie.spec (λ c κs. search needs) (λ c κs. search needs) set-requires
+    (λ c. search needs) returns (λ c κs. search needs) move-to-requires (λ c. search needs)
     returns-2)

@@ -1,5 +1,5 @@
 -- `execute::truths` meets its contract. Assumes nothing.
-use mathlib.Core.Path.{_≡_, refl, sym, ap, _∙_}
+use mathlib.Core.Path.{ap}
 use Rattle.execute.specs.inner.View.{ok, err}
 use Rattle.execute.specs.declared.Got.the-variants as got
 use borrow.Author.Needs.{needs}
@@ -8,87 +8,6 @@ use Rattle.execute.proofs.truths.Tie as tie
 
 enum-told : tie.Need-enum-told
 enum-told c = search needs
-
-ty-mismatch-requires : tie.Need-ty-mismatch-requires
-ty-mismatch-requires c κs = search needs
-
-enum-told-2 : tie.Need-enum-told-2
-enum-told-2 c = search needs
-
-ty-mismatch-requires-2 : tie.Need-ty-mismatch-requires-2
-ty-mismatch-requires-2 c κs = search needs
-
-enum-told-3 : tie.Need-enum-told-3
-enum-told-3 c = search needs
-
-ty-mismatch-requires-3 : tie.Need-ty-mismatch-requires-3
-ty-mismatch-requires-3 c κs = search needs
-
-enum-told-4 : tie.Need-enum-told-4
-enum-told-4 c = search needs
-
-ty-mismatch-requires-4 : tie.Need-ty-mismatch-requires-4
-ty-mismatch-requires-4 c κs = search needs
-
-enum-told-5 : tie.Need-enum-told-5
-enum-told-5 c = search needs
-
-ty-mismatch-requires-5 : tie.Need-ty-mismatch-requires-5
-ty-mismatch-requires-5 c κs = search needs
-
-enum-told-6 : tie.Need-enum-told-6
-enum-told-6 c = search needs
-
-ty-mismatch-requires-6 : tie.Need-ty-mismatch-requires-6
-ty-mismatch-requires-6 c κs = search needs
-
-enum-told-7 : tie.Need-enum-told-7
-enum-told-7 c = search needs
-
-ty-mismatch-requires-7 : tie.Need-ty-mismatch-requires-7
-ty-mismatch-requires-7 c κs = search needs
-
-enum-told-8 : tie.Need-enum-told-8
-enum-told-8 c = search needs
-
-ty-mismatch-requires-8 : tie.Need-ty-mismatch-requires-8
-ty-mismatch-requires-8 c κs = search needs
-
-enum-told-9 : tie.Need-enum-told-9
-enum-told-9 c = search needs
-
-ty-mismatch-requires-9 : tie.Need-ty-mismatch-requires-9
-ty-mismatch-requires-9 c κs = search needs
-
-enum-told-10 : tie.Need-enum-told-10
-enum-told-10 c = search needs
-
-ty-mismatch-requires-10 : tie.Need-ty-mismatch-requires-10
-ty-mismatch-requires-10 c κs = search needs
-
-enum-told-11 : tie.Need-enum-told-11
-enum-told-11 c = search needs
-
-ty-mismatch-requires-11 : tie.Need-ty-mismatch-requires-11
-ty-mismatch-requires-11 c κs = search needs
-
-enum-told-12 : tie.Need-enum-told-12
-enum-told-12 c = search needs
-
-pack-requires : tie.Need-pack-requires
-pack-requires c κs = search needs
-
-enum-told-13 : tie.Need-enum-told-13
-enum-told-13 c = search needs
-
-pack-requires-2 : tie.Need-pack-requires-2
-pack-requires-2 c κs = search needs
-
-enum-told-14 : tie.Need-enum-told-14
-enum-told-14 c = search needs
-
-pack-requires-3 : tie.Need-pack-requires-3
-pack-requires-3 c κs = search needs
 
 returns : tie.Need-returns
 returns c = rw (c .before .enum-told .given .1) (err (ap got.Err (c .ty-mismatch .ensures)))
@@ -134,47 +53,12 @@ returns-14 c = rw (c .before .enum-told14 .given .1) (ok (ap got.Ok (c .pack3 .e
 
 pub truths-spec : {M : Type 1} → statement M
 truths-spec =
-    tie.close
-    (tie.spec
-    enum-told
-    ty-mismatch-requires
-    enum-told-2
-    ty-mismatch-requires-2
-    enum-told-3
-    ty-mismatch-requires-3
-    enum-told-4
-    ty-mismatch-requires-4
-    enum-told-5
-    ty-mismatch-requires-5
-    enum-told-6
-    ty-mismatch-requires-6
-    enum-told-7
-    ty-mismatch-requires-7
-    enum-told-8
-    ty-mismatch-requires-8
-    enum-told-9
-    ty-mismatch-requires-9
-    enum-told-10
-    ty-mismatch-requires-10
-    enum-told-11
-    ty-mismatch-requires-11
-    enum-told-12
-    pack-requires
-    enum-told-13
-    pack-requires-2
-    enum-told-14
-    pack-requires-3
-    returns
-    returns-2
-    returns-3
-    returns-4
-    returns-5
-    returns-6
-    returns-7
-    returns-8
-    returns-9
-    returns-10
-    returns-11
-    returns-12
-    returns-13
-    returns-14)
+    tie.close (tie.spec enum-told (λ c κs. search needs) (λ c. search needs) (λ c κs. search needs)
+    (λ c. search needs) (λ c κs. search needs) (λ c. search needs) (λ c κs. search needs)
+    (λ c. search needs) (λ c κs. search needs) (λ c. search needs) (λ c κs. search needs)
+    (λ c. search needs) (λ c κs. search needs) (λ c. search needs) (λ c κs. search needs)
+    (λ c. search needs) (λ c κs. search needs) (λ c. search needs) (λ c κs. search needs)
+    (λ c. search needs) (λ c κs. search needs) (λ c. search needs) (λ c κs. search needs)
+    (λ c. search needs) (λ c κs. search needs) (λ c. search needs) (λ c κs. search needs)
+    returns returns-2 returns-3 returns-4 returns-5 returns-6 returns-7 returns-8 returns-9
+    returns-10 returns-11 returns-12 returns-13 returns-14)

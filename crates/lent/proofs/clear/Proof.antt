@@ -1,4 +1,4 @@
-use mathlib.Core.Path.{_≡_, refl, sym, ap, _∙_}
+use mathlib.Core.Path.{_≡_, refl, ap, _∙_}
 use Prim.Native.Nat.{ℕ, _+_, _-_, _≤_}
 use native.Mathlib.Omega.{arith}
 use lib.ListN.{length, take, replicate, length-replicate}
@@ -14,21 +14,6 @@ Inv-loop d₀ n last i₀ d i = (i ≤ n) × (length d ≡ length d₀) × (take
 abbrev μ-loop : tie.MeasureT-loop
 μ-loop d₀ n last i₀ d i = n - i
 
-sub-last : tie.Need-sub-last Inv-loop μ-loop
-sub-last c = omega arith
-
-loop-holds : tie.Need-loop-holds Inv-loop μ-loop
-loop-holds c = (omega arith, refl, refl, refl)
-
-zero-requires : tie.Need-zero-requires Inv-loop μ-loop
-zero-requires c κs = omega arith
-
-add-i : tie.Need-add-i Inv-loop μ-loop
-add-i c = omega arith
-
-loop-less : tie.Need-loop-less Inv-loop μ-loop
-loop-less c = omega arith
-
 loop-again : tie.Need-loop-again Inv-loop μ-loop
 loop-again c =
     let a = c .before .before .before .before .before .before .before .args in
@@ -40,9 +25,6 @@ loop-again c =
       t .0,
       t .1,
     )
-
-zero-requires-2 : tie.Need-zero-requires-2 Inv-loop μ-loop
-zero-requires-2 c κs = omega arith
 
 same-length : tie.Need-same-length Inv-loop μ-loop
 same-length c =
@@ -61,16 +43,6 @@ returns c =
 
 pub clear-spec : {M : Type 1} → statement M
 clear-spec =
-    tie.close
-    (tie.spec
-    Inv-loop
-    μ-loop
-    sub-last
-    loop-holds
-    zero-requires
-    add-i
-    loop-less
-    loop-again
-    zero-requires-2
-    same-length
-    returns)
+    tie.close (tie.spec Inv-loop μ-loop (λ c. omega arith) (λ c. (omega arith, refl, refl, refl))
+    (λ c κs. omega arith) (λ c. omega arith) (λ c. omega arith) loop-again (λ c κs. omega arith)
+    same-length returns)

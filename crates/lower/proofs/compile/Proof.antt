@@ -13,9 +13,6 @@ lower-tree-requires c κs =
     let sp = s .pre .0 .1 in
     (one-ready t (s .pre .1 .0) (s .args .program .now) (sp .within) (sp .few) (s .pre .1 .1), (t, sp .within, sp .few, sp .contents, sp .parts, sp .numbers))
 
-same-length : tie.Need-same-length
-same-length c = search needs
-
 returns : tie.Need-returns
 returns c t rest sp z =
     let did = c .before .before .before .before .lower-tree .ensures t (sp .within) (sp .few) (sp .contents) (sp .parts) (sp .numbers) refl in
@@ -29,9 +26,6 @@ finish-requires c κs =
     let did = c .before .before .before .before .before .before .before .lower-tree .ensures t (sp .within) (sp .few) (sp .contents) (sp .parts) (sp .numbers) refl in
     let a = one-asks t (s .pre .1 .0) (s .args .program .now) (sp .within) (sp .few) (s .pre .1 .1) _ _ did (c .before .before .before .if1 .left) (c .before .if2 .taken) in
     ((a .long, a .few, a .labels, a .functions), (_, a .records))
-
-same-length-2 : tie.Need-same-length-2
-same-length-2 c = search needs
 
 returns-2 : tie.Need-returns-2
 returns-2 c t rest sp z =
@@ -60,9 +54,6 @@ compile-both-requires c κs =
     let did = c .before .before .before .before .before .before .before .before .before .before .before .lower-tree .ensures t (sp .within) (sp .few) (sp .contents) (sp .parts) (sp .numbers) refl in
     ((t, sp, sym (one-number t rest b (sp .within) (sp .few) z _ _ did) ∙ c .before .before .before .before .before .before .before .if1 .left), (rest, pass-cleared t rest b (sp .within) (sp .few) z onePass _ _ did _ (c .before .before .before .clear .ensures)))
 
-same-length-3 : tie.Need-same-length-3
-same-length-3 c = search needs
-
 returns-3 : tie.Need-returns-3
 returns-3 c t rest sp z =
     let b = c .before .before .before .before .before .before .before .before .before .before .before .before .before .before .before .before .before .before .before .args .program .now in
@@ -73,15 +64,6 @@ returns-3 c t rest sp z =
 
 pub compile-spec : {M : Type 1} → statement M
 compile-spec =
-    tie.close
-    (tie.spec
-    lower-tree-requires
-    same-length
-    returns
-    finish-requires
-    same-length-2
-    returns-2
-    clear-requires
-    compile-both-requires
-    same-length-3
+    tie.close (tie.spec lower-tree-requires (λ c. search needs) returns finish-requires
+    (λ c. search needs) returns-2 clear-requires compile-both-requires (λ c. search needs)
     returns-3)

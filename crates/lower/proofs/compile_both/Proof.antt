@@ -29,9 +29,6 @@ finish-requires c κs =
     let a = tables-ask t (s .pre .1 .0) (s .args .program .now) (sp .within) (sp .few) (s .pre .1 .1) _ _ did (s .pre .0 .2) _ _ did₂ in
     ((a .long, a .few, a .labels, a .functions), (_, a .records))
 
-same-length : tie.Need-same-length
-same-length c = search needs
-
 returns : tie.Need-returns
 returns c t rest sp n z =
     let b = c .before .before .before .before .before .before .before .before .before .before .before .before .before .before .before .args .program .now in
@@ -41,5 +38,5 @@ returns c t rest sp n z =
 
 pub compile-both-spec : {M : Type 1} → statement M
 compile-both-spec =
-    tie.close
-    (tie.spec lower-tree-requires lower-tree-requires-2 finish-requires same-length returns)
+    tie.close (tie.spec lower-tree-requires lower-tree-requires-2 finish-requires
+    (λ c. search needs) returns)

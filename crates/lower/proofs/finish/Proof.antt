@@ -6,18 +6,6 @@ use borrow.Author.Needs.{needs}
 use Rattle.lower.proofs.finish.Statement.{statement}
 use Rattle.lower.proofs.finish.Tie as tie
 
-compute-requires : tie.Need-compute-requires
-compute-requires c κs = search needs
-
-put-u16-requires : tie.Need-put-u16-requires
-put-u16-requires c κs = search needs
-
-put-u16-requires-2 : tie.Need-put-u16-requires-2
-put-u16-requires-2 c κs = search needs
-
-same-length : tie.Need-same-length
-same-length c = search needs
-
 returns : tie.Need-returns
 returns c cs r =
     let a = c .before .before .before .before .before .before .before .before .before .before .before .before .before .args in
@@ -27,4 +15,4 @@ returns c cs r =
 
 pub finish-spec : {M : Type 1} → statement M
 finish-spec =
-    tie.close (tie.spec compute-requires put-u16-requires put-u16-requires-2 same-length returns)
+    tie.close (tie.spec (λ c κs. search needs) (λ c κs. search needs) (λ c κs. search needs) (λ c. search needs) returns)

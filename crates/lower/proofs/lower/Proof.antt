@@ -12,15 +12,6 @@ use Rattle.lower.proofs.lower.Tie as tie
 returns : tie.Need-returns
 returns c = let s = c .before .before .before in short-gives (s .args .file .now) (s .args .program .now) (c .if1 .taken)
 
-clear-requires : tie.Need-clear-requires
-clear-requires c κs = search needs
-
-read-requires : tie.Need-read-requires
-read-requires c κs = search needs
-
-same-length : tie.Need-same-length
-same-length c = search needs
-
 returns-2 : tie.Need-returns-2
 returns-2 c = let s = c .before .before .before .before .before .before .before .before .before in refused-file (s .args .file .now) (s .args .program .now) (omega (arith, c .before .before .before .before .before .before .if1 .left)) (c .before .read .result) _ (c .before .read .ensures) (c .if2 .taken) (c .before .before .before .before .clear .ensures)
 
@@ -29,12 +20,6 @@ lower-read-requires c κs =
     let s = c .before .before .before .before .before .before .before .before .before .before in
     let b = s .args .program .now in
     (sym (c .before .before .read .ensures) ∙ c .before .if2 .left, (drop 40960 b, cleared (s .args .file .now) b (omega (arith, c .before .before .before .before .before .before .before .if1 .left)) _ (c .before .before .before .before .before .clear .ensures)))
-
-clear-requires-2 : tie.Need-clear-requires-2
-clear-requires-2 c κs = search needs
-
-same-length-2 : tie.Need-same-length-2
-same-length-2 c = search needs
 
 returns-3 : tie.Need-returns-3
 returns-3 c =
@@ -45,9 +30,6 @@ returns-3 c =
     let t = accepted-tree f (sym (c .before .before .before .before .before .before .before .before .before .before .read .ensures) ∙ c .before .before .before .before .before .before .before .before .before .if2 .left) in
     let made = c .before .before .before .before .before .before .before .lower-read .ensures (t .0) (drop 40960 b) (t .1) (cleared f b l _ (c .before .before .before .before .before .before .before .before .before .before .before .before .before .clear .ensures)) in
     refused-tree f b l (t .0) (t .1) (c .before .before .before .before .before .before .before .lower-read .result) _ _ made (c .before .before .before .before .if3 .taken) (c .before .before .clear2 .ensures)
-
-same-length-3 : tie.Need-same-length-3
-same-length-3 c = search needs
 
 returns-4 : tie.Need-returns-4
 returns-4 c =
@@ -61,16 +43,6 @@ returns-4 c =
 
 pub lower-spec : {M : Type 1} → statement M
 lower-spec =
-    tie.close
-    (tie.spec
-    returns
-    clear-requires
-    read-requires
-    same-length
-    returns-2
-    lower-read-requires
-    clear-requires-2
-    same-length-2
-    returns-3
-    same-length-3
-    returns-4)
+    tie.close (tie.spec returns (λ c κs. search needs) (λ c κs. search needs) (λ c. search needs)
+    returns-2 lower-read-requires (λ c κs. search needs) (λ c. search needs) returns-3
+    (λ c. search needs) returns-4)

@@ -9,38 +9,14 @@ use Rattle.lower.proofs.lower_read.Tie as tie
 shared-slice-read-first : tie.Need-shared-slice-read-first
 shared-slice-read-first c = omega (arith, accepted (c .before .before .before .args .file .now) (c .before .before .before .pre .0) .long)
 
-cast-first : tie.Need-cast-first
-cast-first c = omega (arith, c .shared-slice-known2 .given 2)
-
-add-first : tie.Need-add-first
-add-first c = omega (arith, c .shared-slice-known2 .given 2)
-
 get-u16-requires : tie.Need-get-u16-requires
 get-u16-requires c κs = omega (arith, accepted (c .before .before .before .args .file .now) (c .before .before .before .pre .0) .long)
-
-mul-size : tie.Need-mul-size
-mul-size c = search needs
-
-add-size : tie.Need-add-size
-add-size c = omega (arith, c .before .shared-slice-known2 .given 2)
-
-sub-text-bytes : tie.Need-sub-text-bytes
-sub-text-bytes c = search needs
-
-part-text-bytes-start : tie.Need-part-text-bytes-start
-part-text-bytes-start c = search needs
 
 part-text-bytes-end : tie.Need-part-text-bytes-end
 part-text-bytes-end c = omega (arith, contents-fit (c .before .before .before .before .args .file .now) (c .before .before .before .before .pre .0) (c .get-u16 .result) (c .get-u16 .ensures .0))
 
 text-bytes-requires : tie.Need-text-bytes-requires
 text-bytes-requires c κs = lengths-few (c .before .before .before .before .before .args .file .now) (c .before .before .before .before .before .pre .0) (c .before .get-u16 .result) (c .before .get-u16 .ensures .0)
-
-sub-compile : tie.Need-sub-compile
-sub-compile c = search needs
-
-part-compile-start : tie.Need-part-compile-start
-part-compile-start c = search needs
 
 part-compile-end : tie.Need-part-compile-end
 part-compile-end c = omega (arith, contents-fit (c .before .before .before .before .before .before .args .file .now) (c .before .before .before .before .before .before .pre .0) (c .before .before .get-u16 .result) (c .before .before .get-u16 .ensures .0))
@@ -53,9 +29,6 @@ sub-compile-2 c = omega (arith, texts-fit (c .before .before .before .before .be
 
 part-compile-start-2 : tie.Need-part-compile-start-2
 part-compile-start-2 c = omega (arith, texts-fit (c .before .before .before .before .before .before .before .args .file .now) (c .before .before .before .before .before .before .before .pre .0) (c .before .before .before .get-u16 .result) (c .before .before .before .get-u16 .ensures .0) (c .before .text-bytes .result) (c .before .text-bytes .ensures .0))
-
-part-compile-end-2 : tie.Need-part-compile-end-2
-part-compile-end-2 c = search needs
 
 compile-requires : tie.Need-compile-requires
 compile-requires c κs =
@@ -70,9 +43,6 @@ compile-requires c κs =
       s .pre .1,
     )
 
-same-length : tie.Need-same-length
-same-length c = search needs
-
 returns : tie.Need-returns
 returns c t rest e z =
     let s = c .before .before .before .before .before .before .before .before .before .before .before .before in
@@ -84,25 +54,10 @@ returns c t rest e z =
 
 pub lower-read-spec : {M : Type 1} → statement M
 lower-read-spec =
-    tie.close
-    (tie.spec
-    shared-slice-read-first
-    cast-first
-    add-first
-    get-u16-requires
-    mul-size
-    add-size
-    sub-text-bytes
-    part-text-bytes-start
-    part-text-bytes-end
-    text-bytes-requires
-    sub-compile
-    part-compile-start
-    part-compile-end
-    add-compile
-    sub-compile-2
-    part-compile-start-2
-    part-compile-end-2
-    compile-requires
-    same-length
-    returns)
+    tie.close (tie.spec shared-slice-read-first
+    (λ c. omega (arith, c .shared-slice-known2 .given 2))
+    (λ c. omega (arith, c .shared-slice-known2 .given 2)) get-u16-requires (λ c. search needs)
+    (λ c. omega (arith, c .before .shared-slice-known2 .given 2)) (λ c. search needs)
+    (λ c. search needs) part-text-bytes-end text-bytes-requires (λ c. search needs)
+    (λ c. search needs) part-compile-end add-compile sub-compile-2 part-compile-start-2
+    (λ c. search needs) compile-requires (λ c. search needs) returns)

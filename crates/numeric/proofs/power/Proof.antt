@@ -14,9 +14,6 @@ Inv-loop c k n v x₀ i₀ x i = (x % n ≡ 2 ^ (c * 2 ^ i) % n) × (x < 2 ^ 56)
 abbrev μ-loop : tie.MeasureT-loop
 μ-loop c k n v x₀ i₀ x i = k - i
 
-shl-x : tie.Need-shl-x Inv-loop μ-loop
-shl-x c = omega arith
-
 loop-holds : tie.Need-loop-holds Inv-loop μ-loop
 loop-holds c =
     let e = c .args .c in
@@ -25,12 +22,6 @@ loop-holds c =
 
 product-requires : tie.Need-product-requires Inv-loop μ-loop
 product-requires c κs = (c .before .loop .inv .1, c .before .loop .inv .1, c .before .before .pre .1)
-
-add-i : tie.Need-add-i Inv-loop μ-loop
-add-i c = omega arith
-
-loop-less : tie.Need-loop-less Inv-loop μ-loop
-loop-less c = omega arith
 
 loop-again : tie.Need-loop-again Inv-loop μ-loop
 loop-again c =
@@ -47,5 +38,5 @@ returns c =
 
 pub power-spec : {M : Type 1} → statement M
 power-spec =
-    tie.close
-    (tie.spec Inv-loop μ-loop shl-x loop-holds product-requires add-i loop-less loop-again returns)
+    tie.close (tie.spec Inv-loop μ-loop (λ c. omega arith) loop-holds product-requires
+    (λ c. omega arith) (λ c. omega arith) loop-again returns)

@@ -10,33 +10,9 @@ use Rattle.numeric.proofs.Products.{moved-back}
 use Rattle.numeric.proofs.remainder_of.Statement.{statement}
 use Rattle.numeric.proofs.remainder_of.Tie as tie
 
-reduced-requires : tie.Need-reduced-requires
-reduced-requires c κs = search needs
-
-returns : tie.Need-returns
-returns c = search needs
-
-far-requires : tie.Need-far-requires
-far-requires c κs = search needs
-
-returns-2 : tie.Need-returns-2
-returns-2 c = search needs
-
 -- where the leading digit of n goes
 found : (c : tie.Else2) → Moved (c .before .before .args .n) (leadingZeros 64 (c .before .before .args .n))
 found c = moved (c .before .before .args .n) (c .before .before .pre .1) (c .before .before .pre .2)
-
-cast-z : tie.Need-cast-z
-cast-z c = let m = found c in omega arith
-
-sub-z : tie.Need-sub-z
-sub-z c = found c .zeros
-
-shl-far : tie.Need-shl-far
-shl-far c = let m = found c in omega arith
-
-add-far : tie.Need-add-far
-add-far c = let m = found c in omega arith
 
 far-requires-2 : tie.Need-far-requires-2
 far-requires-2 c κs =
@@ -45,9 +21,6 @@ far-requires-2 c κs =
     let same : n % 18446744073709551616 ≡ n = mod-eq-of-lt (omega arith) in
     (c .before .before .pre .0, omega arith, omega arith, omega arith)
 
-shr-result : tie.Need-shr-result
-shr-result c = let m = found (c .before) in omega arith
-
 returns-3 : tie.Need-returns-3
 returns-3 c =
     let start = c .before .before .before in
@@ -55,16 +28,7 @@ returns-3 c =
 
 pub remainder-of-spec : {M : Type 1} → statement M
 remainder-of-spec =
-    tie.close
-    (tie.spec
-    reduced-requires
-    returns
-    far-requires
-    returns-2
-    cast-z
-    sub-z
-    shl-far
-    add-far
-    far-requires-2
-    shr-result
-    returns-3)
+    tie.close (tie.spec (λ c κs. search needs) (λ c. search needs) (λ c κs. search needs)
+    (λ c. search needs) (λ c. let m = found c in omega arith) (λ c. found c .zeros)
+    (λ c. let m = found c in omega arith) (λ c. let m = found c in omega arith) far-requires-2
+    (λ c. let m = found (c .before) in omega arith) returns-3)

@@ -14,24 +14,9 @@ cut c = parts _ _ _ (guess c)
 mul-q : tie.Need-mul-q
 mul-q c = omega (arith, quotient-fits (c .args .r) (c .args .n) (c .args .v) (c .pre .0) (c .pre .1))
 
-mul-result : tie.Need-mul-result
-mul-result c = omega (arith, cut c .first)
-
-sub-result : tie.Need-sub-result
-sub-result c = cut c .first
-
-mul-result-2 : tie.Need-mul-result-2
-mul-result-2 c = omega (arith, cut c .shift)
-
-mul-result-3 : tie.Need-mul-result-3
-mul-result-3 c = omega (arith, cut c .second, cut c .shift)
-
-sub-result-2 : tie.Need-sub-result-2
-sub-result-2 c = cut c .second
-
 returns : tie.Need-returns
 returns c = (shift-same _ (c .args .r) (c .args .n) _ (cut c .same), omega (arith, cut c .same, guess c .near))
 
 pub shifted-spec : {M : Type 1} → statement M
 shifted-spec =
-    tie.close (tie.spec mul-q mul-result sub-result mul-result-2 mul-result-3 sub-result-2 returns)
+    tie.close (tie.spec mul-q (λ c. omega (arith, cut c .first)) (λ c. cut c .first) (λ c. omega (arith, cut c .shift)) (λ c. omega (arith, cut c .second, cut c .shift)) (λ c. cut c .second) returns)

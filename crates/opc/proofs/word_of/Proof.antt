@@ -8,17 +8,8 @@ use borrow.Author.Needs.{needs}
 use Rattle.opc.proofs.word_of.Statement.{statement}
 use Rattle.opc.proofs.word_of.Tie as tie
 
-mul-get-u64 : tie.Need-mul-get-u64
-mul-get-u64 c = search needs
-
-add-get-u64 : tie.Need-add-get-u64
-add-get-u64 c = search needs
-
-get-u64-requires : tie.Need-get-u64-requires
-get-u64-requires c κs = search needs
-
 returns : tie.Need-returns
 returns c = c .get-u64 .ensures ∙ sym (ap beValue (part-part (c .before .before .args .program .now) (16 * c .before .before .args .index) 16 8 8 (omega arith)))
 
 pub word-of-spec : {M : Type 1} → statement M
-word-of-spec = tie.close (tie.spec mul-get-u64 add-get-u64 get-u64-requires returns)
+word-of-spec = tie.close (tie.spec (λ c. search needs) (λ c. search needs) (λ c κs. search needs) returns)

@@ -25,31 +25,27 @@ loop-holds c = let s = c .before .before in (omega arith, put-none (s .args .out
 put-instr-requires : tie.Need-put-instr-requires Inv-loop μ-loop
 put-instr-requires c κs = let s = c .before .before .before .before .before in (omega (arith, put-within (s .pre .0) (c .before .before .loop .inv .1)), s .pre .1, omega (arith, c .before .loop-test .taken, s .pre .2), s .pre .3 (c .before .before .loop .i) (c .before .loop-test .taken))
 
-add-i : tie.Need-add-i Inv-loop μ-loop
-add-i c = search needs
-
 loop-less : tie.Need-loop-less Inv-loop μ-loop
 loop-less c = omega (arith, c .before .before .before .before .loop-test .taken)
 
 loop-again : tie.Need-loop-again Inv-loop μ-loop
-loop-again c = let s = c .before .before .before .before .before .before .before .before in let l = c .before .before .before .before .before .loop in let t : ℕ → List ℕ = λ i. opLine i (instrAt (s .args .program .now) i) in (omega (arith, c .before .before .before .before .loop-test .taken), put-turn (s .pre .0) t (λ (i n : ℕ). concat (tabulate i n t)) (λ i. refl) (λ i n. refl) (l .i) (l .inv .1) (c .before .before .put-instr .ensures))
+loop-again c =
+    let s = c .before .before .before .before .before .before .before .before in
+    let l = c .before .before .before .before .before .loop in
+    let t : ℕ → List ℕ = λ i. opLine i (instrAt (s .args .program .now) i) in
+    (omega (arith, c .before .before .before .before .loop-test .taken), put-turn (s .pre .0) t (λ (i n : ℕ). concat (tabulate i n t)) (λ i. refl) (λ i n. refl) (l .i) (l .inv .1) (c .before .before .put-instr .ensures))
 
 same-length : tie.Need-same-length Inv-loop μ-loop
 same-length c = put-length (c .before .before .before .before .pre .0) (c .before .loop .inv .1)
 
 returns : tie.Need-returns Inv-loop μ-loop
-returns c = let s = c .before .before .before .before in let l = c .before .loop in let e : l .i ≡ s .args .n = omega (arith, l .inv .0, c .loop-test .left) in subst (λ (k : ℕ). Put (s .args .out .now) (s .args .at) (concat (tabulate 0 k (λ i. opLine i (instrAt (s .args .program .now) i)))) (l .out) (l .p)) e (l .inv .1)
+returns c =
+    let s = c .before .before .before .before in
+    let l = c .before .loop in
+    let e : l .i ≡ s .args .n = omega (arith, l .inv .0, c .loop-test .left) in
+    subst (λ (k : ℕ). Put (s .args .out .now) (s .args .at) (concat (tabulate 0 k (λ i. opLine i (instrAt (s .args .program .now) i)))) (l .out) (l .p)) e (l .inv .1)
 
 pub put-code-spec : {M : Type 1} → statement M
 put-code-spec =
-    tie.close
-    (tie.spec
-    Inv-loop
-    μ-loop
-    loop-holds
-    put-instr-requires
-    add-i
-    loop-less
-    loop-again
-    same-length
-    returns)
+    tie.close (tie.spec Inv-loop μ-loop loop-holds put-instr-requires (λ c. search needs) loop-less
+    loop-again same-length returns)

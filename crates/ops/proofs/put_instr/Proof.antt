@@ -14,44 +14,17 @@ use Rattle.ops.proofs.put_instr.Tie as tie
 fetch-fields-requires : tie.Need-fetch-fields-requires
 fetch-fields-requires c κs = omega (arith, c .before .before .pre .1, c .before .before .pre .2)
 
-slice-aggregate-put-two : tie.Need-slice-aggregate-put-two
-slice-aggregate-put-two c = search needs
-
-put-two-requires : tie.Need-put-two-requires
-put-two-requires c κs = search needs
-
-slice-aggregate-put-all : tie.Need-slice-aggregate-put-all
-slice-aggregate-put-all c = search needs
-
-put-all-requires : tie.Need-put-all-requires
-put-all-requires c κs = search needs
-
 put-op-requires : tie.Need-put-op-requires
 put-op-requires c κs = let s = c .before .before .before .before .before .before .before .before .before .before .before .before .before .before in (put-within (put-within (s .pre .0) (c .before .before .before .before .before .before .before .before .put-two .ensures)) (c .before .before .before .put-all .ensures), omega (arith, s .pre .1), subst (λ (g : Fields). PooledTold (g .word) (opIn (s .args .program .now) g)) (sym (c .before .before .before .before .before .before .before .before .before .before .before .fetch-fields .ensures)) (s .pre .3))
 
-slice-aggregate-put-all-2 : tie.Need-slice-aggregate-put-all-2
-slice-aggregate-put-all-2 c = search needs
-
-put-all-requires-2 : tie.Need-put-all-requires-2
-put-all-requires-2 c κs = search needs
-
-same-length : tie.Need-same-length
-same-length c = search needs
-
 returns : tie.Need-returns
-returns c = let s = c .before .before .before .before .before .before .before .before .before .before .before .before .before .before .before .before .before .before .before .before .before .before in let f = c .before .before .before .before .before .before .before .before .before .before .before .before .before .before .before .before .before .before .before .fetch-fields .result in put-as (ap (λ (g : Fields). opLine (s .args .i) (instr (g .lbl) (opIn (s .args .program .now) g))) (sym (c .before .before .before .before .before .before .before .before .before .before .before .before .before .before .before .before .before .before .before .fetch-fields .ensures)) ∙ instr-text (s .args .i) (f .lbl) (opIn (s .args .program .now) (fieldsTold f))) (put-then (s .pre .0) (c .before .before .before .before .before .before .before .before .before .before .before .before .before .before .before .before .put-two .ensures) (put-then (put-within (s .pre .0) (c .before .before .before .before .before .before .before .before .before .before .before .before .before .before .before .before .put-two .ensures)) (c .before .before .before .before .before .before .before .before .before .before .before .put-all .ensures) (put-then (put-within (put-within (s .pre .0) (c .before .before .before .before .before .before .before .before .before .before .before .before .before .before .before .before .put-two .ensures)) (c .before .before .before .before .before .before .before .before .before .before .before .put-all .ensures)) (c .before .before .before .before .before .before .before .put-op .ensures) (c .before .before .put-all2 .ensures))))
+returns c =
+    let s = c .before .before .before .before .before .before .before .before .before .before .before .before .before .before .before .before .before .before .before .before .before .before in
+    let f = c .before .before .before .before .before .before .before .before .before .before .before .before .before .before .before .before .before .before .before .fetch-fields .result in
+    put-as (ap (λ (g : Fields). opLine (s .args .i) (instr (g .lbl) (opIn (s .args .program .now) g))) (sym (c .before .before .before .before .before .before .before .before .before .before .before .before .before .before .before .before .before .before .before .fetch-fields .ensures)) ∙ instr-text (s .args .i) (f .lbl) (opIn (s .args .program .now) (fieldsTold f))) (put-then (s .pre .0) (c .before .before .before .before .before .before .before .before .before .before .before .before .before .before .before .before .put-two .ensures) (put-then (put-within (s .pre .0) (c .before .before .before .before .before .before .before .before .before .before .before .before .before .before .before .before .put-two .ensures)) (c .before .before .before .before .before .before .before .before .before .before .before .put-all .ensures) (put-then (put-within (put-within (s .pre .0) (c .before .before .before .before .before .before .before .before .before .before .before .before .before .before .before .before .put-two .ensures)) (c .before .before .before .before .before .before .before .before .before .before .before .put-all .ensures)) (c .before .before .before .before .before .before .before .put-op .ensures) (c .before .before .put-all2 .ensures))))
 
 pub put-instr-spec : {M : Type 1} → statement M
 put-instr-spec =
-    tie.close
-    (tie.spec
-    fetch-fields-requires
-    slice-aggregate-put-two
-    put-two-requires
-    slice-aggregate-put-all
-    put-all-requires
-    put-op-requires
-    slice-aggregate-put-all-2
-    put-all-requires-2
-    same-length
-    returns)
+    tie.close (tie.spec fetch-fields-requires (λ c. search needs) (λ c κs. search needs)
+    (λ c. search needs) (λ c κs. search needs) put-op-requires (λ c. search needs)
+    (λ c κs. search needs) (λ c. search needs) returns)

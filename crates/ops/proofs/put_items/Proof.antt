@@ -32,33 +32,27 @@ add-put-item c = omega (arith, c .before .before .before .before .before .before
 put-item-requires : tie.Need-put-item-requires Inv-loop μ-loop
 put-item-requires c κs = let s = c .before .before .before .before .before .before .before .before .before in (omega (arith, put-within (put-within (s .pre .0) (c .before .before .before .before .before .before .loop .inv .1)) (c .before .before .before .put-gap .ensures)), s .pre .1, omega (arith, s .pre .2 (omega (arith, c .before .before .before .before .before .loop-test .taken)), c .before .before .before .before .before .loop-test .taken))
 
-add-i : tie.Need-add-i Inv-loop μ-loop
-add-i c = search needs
-
 loop-less : tie.Need-loop-less Inv-loop μ-loop
 loop-less c = omega (arith, c .before .before .before .before .before .before .before .before .loop-test .taken)
 
 loop-again : tie.Need-loop-again Inv-loop μ-loop
-loop-again c = let s = c .before .before .before .before .before .before .before .before .before .before .before .before in let l = c .before .before .before .before .before .before .before .before .before .loop in let f = itemTold (s .args .program .now) in (omega (arith, c .before .before .before .before .before .before .before .before .loop-test .taken), put-element (s .pre .0) singleText (ascii ",") (tabulate (s .args .first) (l .i) f) (tabulate (s .args .first) (l .i + 1) f) (f (s .args .first + l .i)) (sym (length-tabulate (s .args .first) (l .i) f)) (tabulate-end (s .args .first) (l .i) f) (l .inv .1) (c .before .before .before .before .before .before .put-gap .ensures) (c .before .before .put-item .ensures))
+loop-again c =
+    let s = c .before .before .before .before .before .before .before .before .before .before .before .before in
+    let l = c .before .before .before .before .before .before .before .before .before .loop in
+    let f = itemTold (s .args .program .now) in
+    (omega (arith, c .before .before .before .before .before .before .before .before .loop-test .taken), put-element (s .pre .0) singleText (ascii ",") (tabulate (s .args .first) (l .i) f) (tabulate (s .args .first) (l .i + 1) f) (f (s .args .first + l .i)) (sym (length-tabulate (s .args .first) (l .i) f)) (tabulate-end (s .args .first) (l .i) f) (l .inv .1) (c .before .before .before .before .before .before .put-gap .ensures) (c .before .before .put-item .ensures))
 
 same-length : tie.Need-same-length Inv-loop μ-loop
 same-length c = put-length (c .before .before .before .before .pre .0) (c .before .loop .inv .1)
 
 returns : tie.Need-returns Inv-loop μ-loop
-returns c = let s = c .before .before .before .before in let l = c .before .loop in let e : l .i ≡ s .args .n = omega (arith, l .inv .0, c .loop-test .left) in subst (λ (k : ℕ). Put (s .args .out .now) (s .args .at) (joined (ascii ",") (map singleText (tabulate (s .args .first) k (itemTold (s .args .program .now))))) (l .out) (l .p)) e (l .inv .1)
+returns c =
+    let s = c .before .before .before .before in
+    let l = c .before .loop in
+    let e : l .i ≡ s .args .n = omega (arith, l .inv .0, c .loop-test .left) in
+    subst (λ (k : ℕ). Put (s .args .out .now) (s .args .at) (joined (ascii ",") (map singleText (tabulate (s .args .first) k (itemTold (s .args .program .now))))) (l .out) (l .p)) e (l .inv .1)
 
 pub put-items-spec : {M : Type 1} → statement M
 put-items-spec =
-    tie.close
-    (tie.spec
-    Inv-loop
-    μ-loop
-    loop-holds
-    put-gap-requires
-    add-put-item
-    put-item-requires
-    add-i
-    loop-less
-    loop-again
-    same-length
-    returns)
+    tie.close (tie.spec Inv-loop μ-loop loop-holds put-gap-requires add-put-item put-item-requires
+    (λ c. search needs) loop-less loop-again same-length returns)

@@ -3,23 +3,9 @@ use borrow.Author.Needs.{needs}
 use Rattle.ops.proofs.put_one.Statement.{statement}
 use Rattle.ops.proofs.put_one.Tie as tie
 
-put-all-requires : tie.Need-put-all-requires
-put-all-requires c κs = search needs
-
-put-field-requires : tie.Need-put-field-requires
-put-field-requires c κs = search needs
-
-same-length : tie.Need-same-length
-same-length c = search needs
-
 returns : tie.Need-returns
 returns c = put-then (c .before .before .before .before .before .before .before .before .before .before .pre) (c .before .before .before .before .before .before .put-all .ensures) (c .before .before .put-field .ensures)
 
 pub put-one-spec : {M : Type 1} → statement M
 put-one-spec =
-    tie.close
-    (tie.spec
-    put-all-requires
-    put-field-requires
-    same-length
-    returns)
+    tie.close (tie.spec (λ c κs. search needs) (λ c κs. search needs) (λ c. search needs) returns)

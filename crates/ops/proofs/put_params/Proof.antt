@@ -39,36 +39,28 @@ get-u64-requires c κs = omega (arith, c .before .before .before .before .before
 put-field-requires : tie.Need-put-field-requires Inv-loop μ-loop
 put-field-requires c κs = omega (arith, put-within (c .before .before .before .before .before .before .pre .0) (c .before .before .before .loop .inv .1))
 
-add-i : tie.Need-add-i Inv-loop μ-loop
-add-i c = search needs
-
 loop-less : tie.Need-loop-less Inv-loop μ-loop
 loop-less c = omega (arith, c .before .before .before .before .before .loop-test .taken)
 
 loop-again : tie.Need-loop-again Inv-loop μ-loop
-loop-again c = let s = c .before .before .before .before .before .before .before .before .before in let l = c .before .before .before .before .before .before .loop in let f = paramAt (s .args .program .now) in (omega (arith, c .before .before .before .before .before .loop-test .taken), put-row (s .pre .0) (λ (k : ℕ). ascii " " ++ decimal (f k)) (λ (i n : ℕ). numberFields (tabulate i n f)) (λ i. refl) (λ i n. refl) (s .args .first) (l .i) (l .inv .1) (put-as (ap (λ (v : ℕ). ascii " " ++ decimal v) (sym (c .before .before .before .get-u64 .ensures))) (c .before .before .put-field .ensures)))
+loop-again c =
+    let s = c .before .before .before .before .before .before .before .before .before in
+    let l = c .before .before .before .before .before .before .loop in
+    let f = paramAt (s .args .program .now) in
+    (omega (arith, c .before .before .before .before .before .loop-test .taken), put-row (s .pre .0) (λ (k : ℕ). ascii " " ++ decimal (f k)) (λ (i n : ℕ). numberFields (tabulate i n f)) (λ i. refl) (λ i n. refl) (s .args .first) (l .i) (l .inv .1) (put-as (ap (λ (v : ℕ). ascii " " ++ decimal v) (sym (c .before .before .before .get-u64 .ensures))) (c .before .before .put-field .ensures)))
 
 same-length : tie.Need-same-length Inv-loop μ-loop
 same-length c = put-length (c .before .before .before .before .pre .0) (c .before .loop .inv .1)
 
 returns : tie.Need-returns Inv-loop μ-loop
-returns c = let s = c .before .before .before .before in let l = c .before .loop in let e : l .i ≡ s .args .n = omega (arith, l .inv .0, c .loop-test .left) in subst (λ (k : ℕ). Put (s .args .out .now) (s .args .at) (numberFields (tabulate (s .args .first) k (paramAt (s .args .program .now)))) (l .out) (l .p)) e (l .inv .1)
+returns c =
+    let s = c .before .before .before .before in
+    let l = c .before .loop in
+    let e : l .i ≡ s .args .n = omega (arith, l .inv .0, c .loop-test .left) in
+    subst (λ (k : ℕ). Put (s .args .out .now) (s .args .at) (numberFields (tabulate (s .args .first) k (paramAt (s .args .program .now)))) (l .out) (l .p)) e (l .inv .1)
 
 pub put-params-spec : {M : Type 1} → statement M
 put-params-spec =
-    tie.close
-    (tie.spec
-    Inv-loop
-    μ-loop
-    loop-holds
-    add-get-u64
-    mul-get-u64
-    add-get-u64-2
-    add-get-u64-3
-    get-u64-requires
-    put-field-requires
-    add-i
-    loop-less
-    loop-again
-    same-length
-    returns)
+    tie.close (tie.spec Inv-loop μ-loop loop-holds add-get-u64 mul-get-u64 add-get-u64-2
+    add-get-u64-3 get-u64-requires put-field-requires (λ c. search needs) loop-less loop-again
+    same-length returns)

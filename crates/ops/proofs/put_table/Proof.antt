@@ -34,34 +34,27 @@ get-u16-requires c κs = omega (arith, c .before .before .before .before .before
 put-entry-requires : tie.Need-put-entry-requires Inv-loop μ-loop
 put-entry-requires c κs = omega (arith, put-within (c .before .before .before .before .before .before .before .pre .0) (c .before .before .before .loop .inv .1))
 
-add-i : tie.Need-add-i Inv-loop μ-loop
-add-i c = search needs
-
 loop-less : tie.Need-loop-less Inv-loop μ-loop
 loop-less c = omega (arith, c .before .before .before .before .before .loop-test .taken)
 
 loop-again : tie.Need-loop-again Inv-loop μ-loop
-loop-again c = let s = c .before .before .before .before .before .before .before .before .before .before in let l = c .before .before .before .before .before .before .loop in let t : ℕ → List ℕ = λ i. entryLine (s .args .name .now) i (tableEntry (s .args .program .now) (s .args .base) i) in (omega (arith, c .before .before .before .before .before .loop-test .taken), put-turn (s .pre .0) t (λ (i n : ℕ). concat (tabulate i n t)) (λ i. refl) (λ i n. refl) (l .i) (l .inv .1) (put-as (ap (entryLine (s .args .name .now) (l .i)) (sym (c .before .before .before .get-u16 .ensures .0))) (c .before .before .put-entry .ensures)))
+loop-again c =
+    let s = c .before .before .before .before .before .before .before .before .before .before in
+    let l = c .before .before .before .before .before .before .loop in
+    let t : ℕ → List ℕ = λ i. entryLine (s .args .name .now) i (tableEntry (s .args .program .now) (s .args .base) i) in
+    (omega (arith, c .before .before .before .before .before .loop-test .taken), put-turn (s .pre .0) t (λ (i n : ℕ). concat (tabulate i n t)) (λ i. refl) (λ i n. refl) (l .i) (l .inv .1) (put-as (ap (entryLine (s .args .name .now) (l .i)) (sym (c .before .before .before .get-u16 .ensures .0))) (c .before .before .put-entry .ensures)))
 
 same-length : tie.Need-same-length Inv-loop μ-loop
 same-length c = put-length (c .before .before .before .before .before .pre .0) (c .before .loop .inv .1)
 
 returns : tie.Need-returns Inv-loop μ-loop
-returns c = let s = c .before .before .before .before .before in let l = c .before .loop in let e : l .i ≡ s .args .n = omega (arith, l .inv .0, c .loop-test .left) in subst (λ (k : ℕ). Put (s .args .out .now) (s .args .at) (concat (tabulate 0 k (λ i. entryLine (s .args .name .now) i (tableEntry (s .args .program .now) (s .args .base) i)))) (l .out) (l .p)) e (l .inv .1)
+returns c =
+    let s = c .before .before .before .before .before in
+    let l = c .before .loop in
+    let e : l .i ≡ s .args .n = omega (arith, l .inv .0, c .loop-test .left) in
+    subst (λ (k : ℕ). Put (s .args .out .now) (s .args .at) (concat (tabulate 0 k (λ i. entryLine (s .args .name .now) i (tableEntry (s .args .program .now) (s .args .base) i)))) (l .out) (l .p)) e (l .inv .1)
 
 pub put-table-spec : {M : Type 1} → statement M
 put-table-spec =
-    tie.close
-    (tie.spec
-    Inv-loop
-    μ-loop
-    loop-holds
-    mul-get-u16
-    add-get-u16
-    get-u16-requires
-    put-entry-requires
-    add-i
-    loop-less
-    loop-again
-    same-length
-    returns)
+    tie.close (tie.spec Inv-loop μ-loop loop-holds mul-get-u16 add-get-u16 get-u16-requires
+    put-entry-requires (λ c. search needs) loop-less loop-again same-length returns)

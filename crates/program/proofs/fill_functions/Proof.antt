@@ -21,18 +21,6 @@ abbrev μ-loop : tie.MeasureT-loop
 loop-holds : tie.Need-loop-holds Inv-loop μ-loop
 loop-holds c = let s = c .before .before in let a = s .args in (omega arith, fill-first (isFn (a .program .now)) (nameOf (a .program .now)) 64 (a .n) (a .t .now) (s .pre .3))
 
-mul-at : tie.Need-mul-at Inv-loop μ-loop
-mul-at c = omega arith
-
-shared-slice-read-mark : tie.Need-shared-slice-read-mark Inv-loop μ-loop
-shared-slice-read-mark c = omega arith
-
-add-mark : tie.Need-add-mark Inv-loop μ-loop
-add-mark c = omega arith
-
-shared-slice-read-mark-2 : tie.Need-shared-slice-read-mark-2 Inv-loop μ-loop
-shared-slice-read-mark-2 c = omega arith
-
 cast-mark : tie.Need-cast-mark Inv-loop μ-loop
 cast-mark c = omega (arith, c .shared-slice-known3 .given (16 * c .before .before .before .before .loop .i + 4))
 
@@ -43,12 +31,6 @@ mark-requires c κs =
     let b = a .program .now in
     let k = scan-at (recordOk b) (a .n) 0 (c .before .before .before .before .before .before .before .pre .2) (l .i) (omega arith) (omega arith) in
     (omega arith, λ q. omega (arith, l .inv .1 .sized, byte-of b (16 * l .i) 4 (omega arith), name-small b (l .i) k (sym (first-byte b (16 * l .i)) ∙ eqb-true _ 16 q)))
-
-add-i : tie.Need-add-i Inv-loop μ-loop
-add-i c = omega arith
-
-loop-less : tie.Need-loop-less Inv-loop μ-loop
-loop-less c = omega arith
 
 loop-again : tie.Need-loop-again Inv-loop μ-loop
 loop-again c =
@@ -74,19 +56,6 @@ returns c =
 
 pub fill-functions-spec : {M : Type 1} → statement M
 fill-functions-spec =
-    tie.close
-    (tie.spec
-    Inv-loop
-    μ-loop
-    loop-holds
-    mul-at
-    shared-slice-read-mark
-    add-mark
-    shared-slice-read-mark-2
-    cast-mark
-    mark-requires
-    add-i
-    loop-less
-    loop-again
-    same-length
-    returns)
+    tie.close (tie.spec Inv-loop μ-loop loop-holds (λ c. omega arith) (λ c. omega arith)
+    (λ c. omega arith) (λ c. omega arith) cast-mark mark-requires (λ c. omega arith)
+    (λ c. omega arith) loop-again same-length returns)

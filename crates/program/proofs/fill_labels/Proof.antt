@@ -16,21 +16,12 @@ Inv-loop program n t₀ was₀ i₀ t was i = (i ≤ n) × (was ≡ lblOf progra
 abbrev μ-loop : tie.MeasureT-loop
 μ-loop program n t₀ was₀ i₀ t was i = n - i
 
-mark-requires : tie.Need-mark-requires Inv-loop μ-loop
-mark-requires c κs = (omega arith, λ _. omega arith)
-
-label-requires : tie.Need-label-requires Inv-loop μ-loop
-label-requires c κs = (omega arith, omega arith)
-
 loop-holds : tie.Need-loop-holds Inv-loop μ-loop
 loop-holds c =
     let s = c .before .before .before .before .before .before .before in
     let a = s .args in
     let b = a .program .now in
     (omega arith, c .label .ensures, fill-first (enters b) (lblOf b) 1024 (a .n) (c .before .before .before .mark .last .0) (mark-length (a .t .now) (ltb 0 (a .n)) 0 0 (c .before .before .before .mark .ensures) ∙ s .pre .3))
-
-label-requires-2 : tie.Need-label-requires-2 Inv-loop μ-loop
-label-requires-2 c κs = (omega arith, omega arith)
 
 mark-requires-2 : tie.Need-mark-requires-2 Inv-loop μ-loop
 mark-requires-2 c κs =
@@ -40,12 +31,6 @@ mark-requires-2 c κs =
     let b = a .program .now in
     let k = scan-at (recordOk b) (a .n) 0 (s .pre .2) (l .i) (omega arith) (omega arith) in
     (omega arith, λ _. omega (arith, l .inv .2 .sized, c .before .label2 .ensures, label-small b (l .i) k))
-
-add-i : tie.Need-add-i Inv-loop μ-loop
-add-i c = omega arith
-
-loop-less : tie.Need-loop-less Inv-loop μ-loop
-loop-less c = omega arith
 
 loop-again : tie.Need-loop-again Inv-loop μ-loop
 loop-again c =
@@ -80,17 +65,6 @@ returns c =
 
 pub fill-labels-spec : {M : Type 1} → statement M
 fill-labels-spec =
-    tie.close
-    (tie.spec
-    Inv-loop
-    μ-loop
-    mark-requires
-    label-requires
-    loop-holds
-    label-requires-2
-    mark-requires-2
-    add-i
-    loop-less
-    loop-again
-    same-length
-    returns)
+    tie.close (tie.spec Inv-loop μ-loop (λ c κs. (omega arith, λ _. omega arith))
+    (λ c κs. (omega arith, omega arith)) loop-holds (λ c κs. (omega arith, omega arith))
+    mark-requires-2 (λ c. omega arith) (λ c. omega arith) loop-again same-length returns)

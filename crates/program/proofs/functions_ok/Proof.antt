@@ -1,22 +1,23 @@
 use mathlib.Core.Path.{ap, _∙_}
 use lib.ListN.{getD-replicate}
 use Rattle.program.specs.inner.Marked.{isFn, nameOf, marked, functionEntry}
-use Rattle.program.proofs.Stored.{table-made}
+use Prim.Native.Nat.{ℕ, _<_}
+use native.Mathlib.Omega.{arith}
+use Rattle.program.proofs.Stored.{table-made, made-least}
 use borrow.Author.Needs.{needs}
 use Rattle.program.proofs.functions_ok.Statement.{statement}
 use Rattle.program.proofs.functions_ok.Tie as tie
 
-slice-aggregate-fill-functions : tie.Need-slice-aggregate-fill-functions
-slice-aggregate-fill-functions c = search needs
-
-fill-functions-requires : tie.Need-fill-functions-requires
-fill-functions-requires c κs = search needs
-
-slice-aggregate-same-table : tie.Need-slice-aggregate-same-table
-slice-aggregate-same-table c = search needs
-
 same-table-requires : tie.Need-same-table-requires
-same-table-requires c κs = search needs
+same-table-requires c κs =
+    let s = c .before .before .before .before .before in
+    let b = s .args .program .now in
+    let f = c .before .before .fill-functions in (
+      omega (arith, f .ensures .0),
+      λ x h.
+          let k : x < 64 = omega (arith, f .ensures .0) in
+          made-least (isFn b) (nameOf b) x (s .args .n) (f .ensures .1 x k) (omega (arith, getD-replicate {A = ℕ} 64 x 1 0 k)),
+    )
 
 returns : tie.Need-returns
 returns c =
@@ -28,10 +29,5 @@ returns c =
 
 pub functions-ok-spec : {M : Type 1} → statement M
 functions-ok-spec =
-    tie.close
-    (tie.spec
-    slice-aggregate-fill-functions
-    fill-functions-requires
-    slice-aggregate-same-table
-    same-table-requires
-    returns)
+    tie.close (tie.spec (λ c. search needs) (λ c κs. search needs) (λ c. search needs)
+    same-table-requires returns)

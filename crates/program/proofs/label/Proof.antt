@@ -6,17 +6,8 @@ use borrow.Author.Needs.{needs}
 use Rattle.program.proofs.label.Statement.{statement}
 use Rattle.program.proofs.label.Tie as tie
 
-mul-get-u16 : tie.Need-mul-get-u16
-mul-get-u16 c = search needs
-
-add-get-u16 : tie.Need-add-get-u16
-add-get-u16 c = search needs
-
-get-u16-requires : tie.Need-get-u16-requires
-get-u16-requires c κs = search needs
-
 returns : tie.Need-returns
 returns c = let a = c .before .before .args in c .get-u16 .ensures .0 ∙ word-of (a .program .now) (16 * a .i) 2 2 (omega arith)
 
 pub label-spec : {M : Type 1} → statement M
-label-spec = tie.close (tie.spec mul-get-u16 add-get-u16 get-u16-requires returns)
+label-spec = tie.close (tie.spec (λ c. search needs) (λ c. search needs) (λ c κs. search needs) returns)

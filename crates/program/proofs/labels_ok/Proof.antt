@@ -1,25 +1,25 @@
 use mathlib.Core.Path.{ap, _∙_}
 use mathlib.Core.Bool.{cond, _&&_}
-use Prim.Native.Nat.{ℕ}
+use Prim.Native.Nat.{ℕ, _<_}
 use lib.Dec.{ltb, eqb}
 use lib.ListN.{getD-replicate}
 use Rattle.program.specs.inner.Marked.{enters, lblOf, marked, labelEntry}
-use Rattle.program.proofs.Stored.{table-made}
+use native.Mathlib.Omega.{arith}
+use Rattle.program.proofs.Stored.{table-made, made-least, first-least}
 use borrow.Author.Needs.{needs}
 use Rattle.program.proofs.labels_ok.Statement.{statement}
 use Rattle.program.proofs.labels_ok.Tie as tie
 
-slice-aggregate-fill-labels : tie.Need-slice-aggregate-fill-labels
-slice-aggregate-fill-labels c = search needs
-
-fill-labels-requires : tie.Need-fill-labels-requires
-fill-labels-requires c κs = search needs
-
-slice-aggregate-same-table : tie.Need-slice-aggregate-same-table
-slice-aggregate-same-table c = search needs
-
 same-table-requires : tie.Need-same-table-requires
-same-table-requires c κs = search needs
+same-table-requires c κs =
+    let s = c .before .before .before .before .before in
+    let b = s .args .program .now in
+    let f = c .before .before .fill-labels in (
+      omega (arith, f .ensures .0),
+      λ l h.
+          let k : l < 1024 = omega (arith, f .ensures .0) in
+          made-least (enters b) (lblOf b) l (s .args .n) (f .ensures .1 l k) (first-least (ltb 0 (s .args .n) && eqb 0 l) _ (getD-replicate 1024 l 1 0 k)),
+    )
 
 returns : tie.Need-returns
 returns c =
@@ -31,10 +31,5 @@ returns c =
 
 pub labels-ok-spec : {M : Type 1} → statement M
 labels-ok-spec =
-    tie.close
-    (tie.spec
-    slice-aggregate-fill-labels
-    fill-labels-requires
-    slice-aggregate-same-table
-    same-table-requires
-    returns)
+    tie.close (tie.spec (λ c. search needs) (λ c κs. search needs) (λ c. search needs)
+    same-table-requires returns)

@@ -7,12 +7,6 @@ use borrow.Author.Needs.{needs}
 use Rattle.program.proofs.program_ok.Statement.{statement}
 use Rattle.program.proofs.program_ok.Tie as tie
 
-get-u16-requires : tie.Need-get-u16-requires
-get-u16-requires c κs = search needs
-
-get-u16-requires-2 : tie.Need-get-u16-requires-2
-get-u16-requires-2 c κs = search needs
-
 returns : tie.Need-returns
 returns c =
     let b = c .before .before .before .before .args .program .now in
@@ -23,16 +17,10 @@ returns-2 c =
     let b = c .before .before .before .before .before .args .program .now in
     over-start b (bytes-of b (λ i. omega (arith, c .before .before .before .before .shared-slice-known .given i))) (omega arith) (c .before .before .before .get-u16 .ensures .0) (c .before .before .get-u162 .ensures .0) (c .if2 .taken)
 
-records-ok-requires : tie.Need-records-ok-requires
-records-ok-requires c κs = search needs
-
 returns-3 : tie.Need-returns-3
 returns-3 c =
     let b = c .before .before .before .before .before .before .before .args .program .now in
     bad-records b (bytes-of b (λ i. omega (arith, c .before .before .before .before .before .before .shared-slice-known .given i))) (omega arith) (c .before .before .before .before .before .get-u16 .ensures .0) (c .before .before .before .before .get-u162 .ensures .0) (c .before .records-ok .ensures) (not-true (c .before .records-ok .result) (c .if3 .taken))
-
-pool-ok-requires : tie.Need-pool-ok-requires
-pool-ok-requires c κs = search needs
 
 returns-4 : tie.Need-returns-4
 returns-4 c =
@@ -52,16 +40,6 @@ returns-5 c =
 
 pub program-ok-spec : {M : Type 1} → statement M
 program-ok-spec =
-    tie.close
-    (tie.spec
-    get-u16-requires
-    get-u16-requires-2
-    returns
-    returns-2
-    records-ok-requires
-    returns-3
-    pool-ok-requires
-    returns-4
-    labels-ok-requires
-    functions-ok-requires
-    returns-5)
+    tie.close (tie.spec (λ c κs. search needs) (λ c κs. search needs) returns returns-2
+    (λ c κs. search needs) returns-3 (λ c κs. search needs) returns-4 labels-ok-requires
+    functions-ok-requires returns-5)

@@ -8,23 +8,8 @@ use Rattle.records.proofs.entries.Statement.{statement}
 use Rattle.records.proofs.entries.Tie as tie
 use Rattle.opc.specs.inner.Fetch.{recordAt}
 
-mul-at : tie.Need-mul-at
-mul-at c = search needs
-
-add-n : tie.Need-add-n
-add-n c = search needs
-
-shared-slice-read-n : tie.Need-shared-slice-read-n
-shared-slice-read-n c = search needs
-
 cast-n : tie.Need-cast-n
 cast-n c = omega (arith, c .shared-slice-known2 .given (16 * c .before .before .args .i + 7))
-
-add-get-u64 : tie.Need-add-get-u64
-add-get-u64 c = search needs
-
-get-u64-requires : tie.Need-get-u64-requires
-get-u64-requires c κs = search needs
 
 span-ok-requires : tie.Need-span-ok-requires
 span-ok-requires c κs = let a = c .before .before .before .args in (omega arith, omega (arith, c .before .shared-slice-known2 .given (16 * a .i + 7)))
@@ -55,17 +40,6 @@ returns-3 c =
 
 pub entries-spec : {M : Type 1} → statement M
 entries-spec =
-    tie.close
-    (tie.spec
-    mul-at
-    add-n
-    shared-slice-read-n
-    cast-n
-    add-get-u64
-    get-u64-requires
-    span-ok-requires
-    entries-ok-requires
-    add-result
-    returns
-    returns-2
-    returns-3)
+    tie.close (tie.spec (λ c. search needs) (λ c. search needs) (λ c. search needs) cast-n
+    (λ c. search needs) (λ c κs. search needs) span-ok-requires entries-ok-requires add-result
+    returns returns-2 returns-3)

@@ -13,20 +13,8 @@ Inv-loop program from n least most end ok₀ k₀ ok k = (k ≤ end) × (end ≤
 abbrev μ-loop : tie.MeasureT-loop
 μ-loop program from n least most end ok₀ k₀ ok k = end - k
 
-add-end : tie.Need-add-end Inv-loop μ-loop
-add-end c = omega arith
-
 loop-holds : tie.Need-loop-holds Inv-loop μ-loop
 loop-holds c = let a = c .before .args in (omega arith, omega arith, scan-start (entryOk (a .least) (a .most) (a .program .now)) (a .from) (a .n))
-
-entry-ok-requires : tie.Need-entry-ok-requires Inv-loop μ-loop
-entry-ok-requires c κs = let l = c .before .loop in (omega arith, omega arith)
-
-add-k : tie.Need-add-k Inv-loop μ-loop
-add-k c = omega arith
-
-loop-less : tie.Need-loop-less Inv-loop μ-loop
-loop-less c = omega arith
 
 loop-again : tie.Need-loop-again Inv-loop μ-loop
 loop-again c =
@@ -42,14 +30,6 @@ returns c =
 
 pub entries-ok-spec : {M : Type 1} → statement M
 entries-ok-spec =
-    tie.close
-    (tie.spec
-    Inv-loop
-    μ-loop
-    add-end
-    loop-holds
-    entry-ok-requires
-    add-k
-    loop-less
-    loop-again
-    returns)
+    tie.close (tie.spec Inv-loop μ-loop (λ c. omega arith) loop-holds
+    (λ c κs. let l = c .before .loop in (omega arith, omega arith)) (λ c. omega arith)
+    (λ c. omega arith) loop-again returns)

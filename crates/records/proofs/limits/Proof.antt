@@ -1,35 +1,9 @@
-use mathlib.Core.Path.{_≡_}
+use mathlib.Core.Path.{_≡_, ap}
 use Rattle.opc.proofs.Laws.{none-picked}
 use Rattle.records.specs.inner.Fits.{noKind, limitTable}
+use Rattle.records.specs.inner.Lanes.{limitWords}
 use Rattle.records.proofs.limits.Statement.{statement}
 use Rattle.records.proofs.limits.Tie as tie
-
-returns : tie.Need-returns
-returns c = let e : c .before .args .code ≡ 1 = c .match .keys1 in rw e
-
-returns-2 : tie.Need-returns-2
-returns-2 c = let e : c .before .args .code ≡ 2 = c .match .keys2 in rw e
-
-returns-3 : tie.Need-returns-3
-returns-3 c = let e : c .before .args .code ≡ 3 = c .match .keys3 in rw e
-
-returns-4 : tie.Need-returns-4
-returns-4 c = let e : c .before .args .code ≡ 4 = c .match .keys4 in rw e
-
-returns-5 : tie.Need-returns-5
-returns-5 c = let e : c .before .args .code ≡ 5 = c .match .keys5 in rw e
-
-returns-6 : tie.Need-returns-6
-returns-6 c = let e : c .before .args .code ≡ 6 = c .match .keys6 in rw e
-
-returns-7 : tie.Need-returns-7
-returns-7 c = let e : c .before .args .code ≡ 7 = c .match .keys7 in rw e
-
-returns-8 : tie.Need-returns-8
-returns-8 c = let e : c .before .args .code ≡ 8 = c .match .keys8 in rw e
-
-returns-9 : tie.Need-returns-9
-returns-9 c = let e : c .before .args .code ≡ 9 = c .match .keys9 in rw e
 
 returns-10 : tie.Need-returns-10
 returns-10 c = let e : c .before .args .code ≡ 10 = c .match .keys10 in rw e
@@ -77,34 +51,18 @@ returns-24 : tie.Need-returns-24
 returns-24 c = let e : c .before .args .code ≡ 24 = c .match .keys24 in rw e
 
 returns-25 : tie.Need-returns-25
-returns-25 c = none-picked noKind limitTable (c .before .args .code) (c .match .rest .0 .0 .0 .0 .0 .0 .0 .0 .0 .0 .0 .0 .0 .0 .0 .0 .0 .0 .0 .0 .0 .0 .0 .1, (c .match .rest .0 .0 .0 .0 .0 .0 .0 .0 .0 .0 .0 .0 .0 .0 .0 .0 .0 .0 .0 .0 .0 .0 .1, (c .match .rest .0 .0 .0 .0 .0 .0 .0 .0 .0 .0 .0 .0 .0 .0 .0 .0 .0 .0 .0 .0 .0 .1, (c .match .rest .0 .0 .0 .0 .0 .0 .0 .0 .0 .0 .0 .0 .0 .0 .0 .0 .0 .0 .0 .0 .1, (c .match .rest .0 .0 .0 .0 .0 .0 .0 .0 .0 .0 .0 .0 .0 .0 .0 .0 .0 .0 .0 .1, (c .match .rest .0 .0 .0 .0 .0 .0 .0 .0 .0 .0 .0 .0 .0 .0 .0 .0 .0 .0 .1, (c .match .rest .0 .0 .0 .0 .0 .0 .0 .0 .0 .0 .0 .0 .0 .0 .0 .0 .0 .1, (c .match .rest .0 .0 .0 .0 .0 .0 .0 .0 .0 .0 .0 .0 .0 .0 .0 .0 .1, (c .match .rest .0 .0 .0 .0 .0 .0 .0 .0 .0 .0 .0 .0 .0 .0 .0 .1, (c .match .rest .0 .0 .0 .0 .0 .0 .0 .0 .0 .0 .0 .0 .0 .0 .1, (c .match .rest .0 .0 .0 .0 .0 .0 .0 .0 .0 .0 .0 .0 .0 .1, (c .match .rest .0 .0 .0 .0 .0 .0 .0 .0 .0 .0 .0 .0 .1, (c .match .rest .0 .0 .0 .0 .0 .0 .0 .0 .0 .0 .0 .1, (c .match .rest .0 .0 .0 .0 .0 .0 .0 .0 .0 .0 .1, (c .match .rest .0 .0 .0 .0 .0 .0 .0 .0 .0 .1, (c .match .rest .0 .0 .0 .0 .0 .0 .0 .0 .1, (c .match .rest .0 .0 .0 .0 .0 .0 .0 .1, (c .match .rest .0 .0 .0 .0 .0 .0 .1, (c .match .rest .0 .0 .0 .0 .0 .1, (c .match .rest .0 .0 .0 .0 .1, (c .match .rest .0 .0 .0 .1, (c .match .rest .0 .0 .1, (c .match .rest .0 .1, (c .match .rest .1, tt))))))))))))))))))))))))
+returns-25 c = ap limitWords (none-picked noKind limitTable (c .before .args .code) (c .match .rest .0 .0 .0 .0 .0 .0 .0 .0 .0 .0 .0 .0 .0 .0 .0 .0 .0 .0 .0 .0 .0 .0 .0 .1, (c .match .rest .0 .0 .0 .0 .0 .0 .0 .0 .0 .0 .0 .0 .0 .0 .0 .0 .0 .0 .0 .0 .0 .0 .1, (c .match .rest .0 .0 .0 .0 .0 .0 .0 .0 .0 .0 .0 .0 .0 .0 .0 .0 .0 .0 .0 .0 .0 .1, (c .match .rest .0 .0 .0 .0 .0 .0 .0 .0 .0 .0 .0 .0 .0 .0 .0 .0 .0 .0 .0 .0 .1, (c .match .rest .0 .0 .0 .0 .0 .0 .0 .0 .0 .0 .0 .0 .0 .0 .0 .0 .0 .0 .0 .1, (c .match .rest .0 .0 .0 .0 .0 .0 .0 .0 .0 .0 .0 .0 .0 .0 .0 .0 .0 .0 .1, (c .match .rest .0 .0 .0 .0 .0 .0 .0 .0 .0 .0 .0 .0 .0 .0 .0 .0 .0 .1, (c .match .rest .0 .0 .0 .0 .0 .0 .0 .0 .0 .0 .0 .0 .0 .0 .0 .0 .1, (c .match .rest .0 .0 .0 .0 .0 .0 .0 .0 .0 .0 .0 .0 .0 .0 .0 .1, (c .match .rest .0 .0 .0 .0 .0 .0 .0 .0 .0 .0 .0 .0 .0 .0 .1, (c .match .rest .0 .0 .0 .0 .0 .0 .0 .0 .0 .0 .0 .0 .0 .1, (c .match .rest .0 .0 .0 .0 .0 .0 .0 .0 .0 .0 .0 .0 .1, (c .match .rest .0 .0 .0 .0 .0 .0 .0 .0 .0 .0 .0 .1, (c .match .rest .0 .0 .0 .0 .0 .0 .0 .0 .0 .0 .1, (c .match .rest .0 .0 .0 .0 .0 .0 .0 .0 .0 .1, (c .match .rest .0 .0 .0 .0 .0 .0 .0 .0 .1, (c .match .rest .0 .0 .0 .0 .0 .0 .0 .1, (c .match .rest .0 .0 .0 .0 .0 .0 .1, (c .match .rest .0 .0 .0 .0 .0 .1, (c .match .rest .0 .0 .0 .0 .1, (c .match .rest .0 .0 .0 .1, (c .match .rest .0 .0 .1, (c .match .rest .0 .1, (c .match .rest .1, tt)))))))))))))))))))))))))
 
 pub limits-spec : {M : Type 1} → statement M
 limits-spec =
-    tie.close
-    (tie.spec
-    returns
-    returns-2
-    returns-3
-    returns-4
-    returns-5
-    returns-6
-    returns-7
-    returns-8
-    returns-9
-    returns-10
-    returns-11
-    returns-12
-    returns-13
-    returns-14
-    returns-15
-    returns-16
-    returns-17
-    returns-18
-    returns-19
-    returns-20
-    returns-21
-    returns-22
-    returns-23
-    returns-24
-    returns-25)
+    tie.close (tie.spec (λ c. let e : c .before .args .code ≡ 1 = c .match .keys1 in rw e)
+    (λ c. let e : c .before .args .code ≡ 2 = c .match .keys2 in rw e)
+    (λ c. let e : c .before .args .code ≡ 3 = c .match .keys3 in rw e)
+    (λ c. let e : c .before .args .code ≡ 4 = c .match .keys4 in rw e)
+    (λ c. let e : c .before .args .code ≡ 5 = c .match .keys5 in rw e)
+    (λ c. let e : c .before .args .code ≡ 6 = c .match .keys6 in rw e)
+    (λ c. let e : c .before .args .code ≡ 7 = c .match .keys7 in rw e)
+    (λ c. let e : c .before .args .code ≡ 8 = c .match .keys8 in rw e)
+    (λ c. let e : c .before .args .code ≡ 9 = c .match .keys9 in rw e) returns-10 returns-11
+    returns-12 returns-13 returns-14 returns-15 returns-16 returns-17 returns-18 returns-19
+    returns-20 returns-21 returns-22 returns-23 returns-24 returns-25)

@@ -20,12 +20,6 @@ loop-holds c = let a = c .before .args in (omega arith, omega arith, pool-first 
 pooled-requires : tie.Need-pooled-requires Inv-loop μ-loop
 pooled-requires c κs = let l = c .before .loop in (omega arith, omega arith, l .inv .1)
 
-add-i : tie.Need-add-i Inv-loop μ-loop
-add-i c = omega arith
-
-loop-less : tie.Need-loop-less Inv-loop μ-loop
-loop-less c = omega arith
-
 loop-again : tie.Need-loop-again Inv-loop μ-loop
 loop-again c =
     let a = c .before .before .before .before .args in
@@ -40,5 +34,5 @@ returns c =
 
 pub pool-ok-spec : {M : Type 1} → statement M
 pool-ok-spec =
-    tie.close
-    (tie.spec Inv-loop μ-loop loop-holds pooled-requires add-i loop-less loop-again returns)
+    tie.close (tie.spec Inv-loop μ-loop loop-holds pooled-requires (λ c. omega arith)
+    (λ c. omega arith) loop-again returns)

@@ -1,32 +1,16 @@
+use Prim.Native.Nat.{_*_}
+use native.Mathlib.Omega.{arith}
+use Rattle.records.proofs.Whole.{record-fits}
 use borrow.Author.Needs.{needs}
 use Rattle.records.proofs.record_ok.Statement.{statement}
 use Rattle.records.proofs.record_ok.Tie as tie
 
-limits-requires : tie.Need-limits-requires
-limits-requires c κs = search needs
-
-operands-ok-requires : tie.Need-operands-ok-requires
-operands-ok-requires c κs = search needs
-
-kind-ok-requires : tie.Need-kind-ok-requires
-kind-ok-requires c κs = search needs
-
-word-ok-requires : tie.Need-word-ok-requires
-word-ok-requires c κs = search needs
-
-literal-ok-requires : tie.Need-literal-ok-requires
-literal-ok-requires c κs = search needs
-
 returns : tie.Need-returns
-returns c = rw (c .before .before .before .before .operands-ok .ensures, c .before .before .before .kind-ok .ensures, c .before .before .word-ok .ensures, c .before .literal-ok .ensures, c .before .before .before .before .before .limits .ensures)
+returns c =
+    let a = c .before .before .before .before .before .before .before .before .before .before .before .args in
+    record-fits (a .program .now) (λ i. omega (arith, c .before .before .before .before .before .before .before .before .before .before .shared-slice-known .given i)) (16 * a .i) (omega arith) (c .before .before .before .before .before .before .before .before .limits .ensures) (c .before .before .before .before .before .before .before .eight-at .ensures) (c .before .before .before .before .before .before .eight-at2 .ensures) (c .before .before .before .before .before .wrapping-add-u64 .ensures) (c .literal-ok .ensures)
 
 pub record-ok-spec : {M : Type 1} → statement M
 record-ok-spec =
-    tie.close
-    (tie.spec
-    limits-requires
-    operands-ok-requires
-    kind-ok-requires
-    word-ok-requires
-    literal-ok-requires
-    returns)
+    tie.close (tie.spec (λ c. search needs) (λ c. search needs) (λ c κs. search needs)
+    (λ c κs. search needs) (λ c. search needs) (λ c κs. search needs) (λ c κs. search needs) (λ c κs. search needs) returns)

@@ -1,4 +1,4 @@
--- What the program check tests, record by record and entry by entry. Written as the code is, and needed by its proof only: the contract of the check
+-- What the program check tests, record by record and entry by entry. Needed by the proof of the check only (Lanes has the form that the code has): the contract of the check
 -- cites `decodeProgram`. Definitions only.
 use Prim.Native.Nat.{ℕ, zero, suc, _+_, _*_, _/_, _%_}
 use mathlib.Core.Bool.{Bool, true, cond, not, _&&_, _||_}
@@ -28,7 +28,7 @@ limitTable =
 
 -- another operation allows no kind
 abbrev pub noKind : ℕ
-noKind = 0x0000000001000000
+noKind = 0xffffff0001ffffff
 
 abbrev pub limitsOf : ℕ → ℕ
 limitsOf o = pickOr noKind limitTable o

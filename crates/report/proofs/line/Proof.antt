@@ -5,16 +5,10 @@ use borrow.Author.Needs.{needs}
 use Rattle.report.proofs.line.Statement.{statement}
 use Rattle.report.proofs.line.Tie as tie
 
-add-wrapping-sub-u64 : tie.Need-add-wrapping-sub-u64
-add-wrapping-sub-u64 c = search needs
-
-wrapping-sub-u64-requires : tie.Need-wrapping-sub-u64-requires
-wrapping-sub-u64-requires c κs = search needs
-
 returns : tie.Need-returns
 returns c =
     let a = c .before .args in
     line-law (a .start) (a .pos) (c .wrapping-sub-u64 .result) (c .before .pre .0) (c .before .pre .1) (omega arith) (c .wrapping-sub-u64 .ensures)
 
 pub line-spec : {M : Type 1} → statement M
-line-spec = tie.close (tie.spec add-wrapping-sub-u64 wrapping-sub-u64-requires returns)
+line-spec = tie.close (tie.spec (λ c. search needs) (λ c κs. search needs) returns)

@@ -2,7 +2,6 @@
 use mathlib.Core.Path.{refl}
 use native.Mathlib.Omega.{arith}
 use Rattle.sifv.specs.laws.Boxed.{item-law, item-below}
-use borrow.Author.Needs.{needs}
 use Rattle.sifv.proofs.item.Statement.{statement}
 use Rattle.sifv.proofs.item.Tie as tie
 
@@ -32,13 +31,5 @@ returns c = item-law (c .before .before .before .args .s .now) (c .before .befor
 
 pub item-spec : {M : Type 1} → statement M
 item-spec =
-    tie.close
-    (tie.spec
-    add-t4
-    add-t5
-    shared-slice-read-t7
-    mul-get-u64
-    add-get-u64
-    add-get-u64-2
-    get-u64-requires
-    returns)
+    tie.close (tie.spec add-t4 add-t5 shared-slice-read-t7 mul-get-u64 add-get-u64 add-get-u64-2
+    get-u64-requires returns)

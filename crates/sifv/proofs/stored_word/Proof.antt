@@ -1,14 +1,11 @@
 -- `sifv::stored_word` meets its contract. Assumes nothing.
-use mathlib.Core.Path.{_≡_, sym, ap, _∙_}
+use mathlib.Core.Path.{sym, ap, _∙_}
 use Prim.Native.Nat.{ℕ}
 use Rattle.sifv.specs.Slot.{wordOf, singleOf}
 use Rattle.sifv.specs.laws.Formed.{word-single}
 use borrow.Author.Needs.{needs}
 use Rattle.sifv.proofs.stored_word.Statement.{statement}
 use Rattle.sifv.proofs.stored_word.Tie as tie
-
-canonical-requires : tie.Need-canonical-requires
-canonical-requires c κs = search needs
 
 returns : tie.Need-returns
 returns c = c .canonical .ensures ∙ ap (λ (k : ℕ). wordOf (singleOf k (c .before .before .args .word))) (sym (c .before .if1 .taken))
@@ -20,4 +17,4 @@ returns-3 : tie.Need-returns-3
 returns-3 c = word-single (c .before .before .args .kind) (c .before .before .args .word) (c .before .before .pre .0) (c .before .before .pre .1) (c .before .if1 .left) (c .if2 .left) (c .before .before .pre .2)
 
 pub stored-word-spec : {M : Type 1} → statement M
-stored-word-spec = tie.close (tie.spec canonical-requires returns returns-2 returns-3)
+stored-word-spec = tie.close (tie.spec (λ c κs. search needs) returns returns-2 returns-3)

@@ -12,37 +12,15 @@ use lib.ListN.{length, getD, take, drop}
 use lib.Seq.{drop-cons, take-take}
 use lib.Dec.{eqb, leb, ltb}
 use borrow.Author.Tests.{eq-eqb, ne-eqb, eqb-true, eqb-false, le-leb}
-use Rattle.lent.specs.Bytes.{beValue, part, splice, sameBytes}
-use Rattle.lent.specs.laws.Parts.{length-part, part-all, part-part, part-lent, splice-all}
-use Rattle.sifv.specs.Value.{Single, Entry, One, Arr, Tab}
-use Rattle.sifv.specs.Slot.{singleKind, wordBytes, singleOf, entriesOf, contents, key, value, singleOk, singlesOk, entriesOk, encodeSlot, slotOk}
-use Rattle.sifv.specs.inner.Seen.{shown, singleSeen, bare, slotItem, boxBytes, keysOk, oneOk, arrOk, tabOk}
-use Rattle.sifv.specs.laws.Laws.{plain-shown, bare-shown, length-singles, length-entries, decode-empty, decode-single, decode-arr, decode-tab, decode-other, encode-bare}
-use Rattle.sifv.specs.laws.Items.{contents-item, length-box, put-keys}
-use Rattle.sifv.specs.declared.SifVal.{SifVal}
+use Rattle.lent.specs.Bytes.{part, sameBytes}
+use Rattle.lent.specs.laws.Parts.{length-part}
+use Rattle.sifv.specs.Value.{Single, Entry, Arr, Tab}
+use Rattle.sifv.specs.Slot.{singleKind, wordBytes, entriesOf, contents, key, value, singleOk, singlesOk, entriesOk, encodeSlot, slotOk}
+use Rattle.sifv.specs.inner.Seen.{boxBytes, keysOk, oneOk, arrOk, tabOk}
+use Rattle.sifv.specs.laws.Laws.{length-singles, length-entries, decode-empty, decode-single, decode-arr, decode-tab, decode-other}
 use Rattle.lent.specs.Lists.{zeros}
 
 -- ---- turns of the checks: the answer of all is the answer so far and that of the rest
-
-singles-step : (l : List Single) (i : ℕ) (d : Single) → i < length l → singlesOk (drop i l) ≡ (singleOk (getD l i d) && singlesOk (drop (i + 1) l))
-singles-step l i d h = rw (add-one, drop-cons l i d h)
-
-pub items-turn : (b : List ℕ) (n i : ℕ) (ok : Bool) {v : SifVal} {o r : Bool} → i < n → n ≤ 24 → singlesOk (contents n b) ≡ (ok && singlesOk (drop i (contents n b)))
-    → v ≡ shown (slotItem b i) → o ≡ singleOk (singleSeen v) → r ≡ (ok && o) → singlesOk (contents n b) ≡ (r && singlesOk (drop (i + 1) (contents n b)))
-items-turn b n i ok {v} {o} {r} h g e f p q =
-    let l = contents n b in
-    let m : length l ≡ n = length-singles n (part b 16 24) (part b 40 192) in
-    let z : singleOk (getD l i (slotItem b i)) ≡ o = ap singleOk (contents-item n i b (slotItem b i) h g ∙ sym (ap singleSeen f ∙ plain-shown (slotItem b i))) ∙ sym p in
-    e
-    ∙ ap (λ (t : Bool). ok && t) (singles-step l i (slotItem b i) (omega arith) ∙ ap (λ (t : Bool). t && singlesOk (drop (i + 1) l)) z)
-    ∙ sym (and-assoc ok o (singlesOk (drop (i + 1) l)))
-    ∙ ap (λ (t : Bool). t && singlesOk (drop (i + 1) l)) (sym q)
-
-pub items-end : (l : List Single) (i : ℕ) → length l ≤ i → singlesOk (drop i l) ≡ true
-items-end [] zero h = refl
-items-end [] (suc i) h = refl
-items-end (x ∷ l) zero h = absurd (not-suc-le-zero h)
-items-end (x ∷ l) (suc i) h = items-end l i (le-of-suc-le-suc h)
 
 pub keys-turn : (ks : List ℕ) (i next k : ℕ) (ok : Bool) {r : Bool} → i < length ks → k ≡ getD ks i 0 → keysOk 0 ks ≡ (ok && keysOk next (drop i ks)) → r ≡ (ok && (leb next k && ltb k 64))
     → keysOk 0 ks ≡ (r && keysOk (k + 1) (drop (i + 1) ks))
@@ -159,53 +137,3 @@ module _ (b : List ℕ) where
       differs : (l : List ℕ) → 6 < getD l 0 0 → false ≡ sameBytes (zeros 256) l
       differs [] g = refl
       differs (x ∷ l) g = rw (ne-eqb 0 x (λ p. omega arith))
-
--- ---- one form, made and compared: t is that form
-
--- a form of 256 bytes
-form-same : (b a : List ℕ) {t : List ℕ} {p : Bool} → length a ≡ 256 → t ≡ a → p ≡ sameBytes (part t 0 256) b → p ≡ sameBytes a b
-form-same b a l e k = k ∙ ap (λ (u : List ℕ). sameBytes u b) (ap₂ (λ (u : List ℕ) (i : ℕ). part u 0 i) e (sym l) ∙ part-all a)
-
-module _ (s : List ℕ) (at : ℕ) {t : List ℕ} {o p r : Bool} where
-  pub one-law : (x : Single) {v : SifVal} → x ≡ singleOf (getD (part s at 256) 0 0) (beValue (part (part s at 256) 8 8)) → v ≡ shown x
-      → t ≡ splice (zeros 256) 0 (encodeSlot (bare v)) → o ≡ singleOk (singleSeen v) → p ≡ sameBytes (part t 0 256) (part s at 256) → r ≡ (o && p) → r ≡ oneOk (part s at 256)
-  one-law x {v} e f g h k q =
-      let b = part s at 256 in
-      let z : bare v ≡ some (One x) = ap bare f ∙ bare-shown x in
-      let a = encodeSlot (bare v) in
-      let l : length a ≡ 256 = ap length (encode-bare v) in
-      let m : t ≡ a = g ∙ splice-all (zeros 256) a l in
-      let c : part t 0 256 ≡ encodeSlot (some (One x)) =
-      ap₂ (λ (u : List ℕ) (i : ℕ). part u 0 i) m (sym l) ∙ part-all a ∙ ap encodeSlot z in
-      q
-      ∙ ap₂ (λ (u w : Bool). u && w) (h ∙ ap singleOk (ap singleSeen f ∙ plain-shown x)) (k ∙ ap (λ (u : List ℕ). sameBytes u b) c)
-      ∙ ap (λ (y : Single). singleOk y && sameBytes (encodeSlot (some (One y))) b) e
-
-  pub arr-law : (n : ℕ) → n ≡ min (getD (part s at 256) 1 0) 24 → t ≡ boxBytes 5 n (contents n (part s at 256)) []
-      → o ≡ singlesOk (contents n (part s at 256)) → p ≡ sameBytes (part t 0 256) (part s at 256) → r ≡ (o && p) → r ≡ arrOk (part s at 256)
-  arr-law n e f g h k =
-      let b = part s at 256 in
-      let l = contents n b in
-      let m : length l ≡ n = length-singles n (part b 16 24) (part b 40 192) in
-      k
-      ∙ ap₂ (λ (u v : Bool). u && v) g (form-same b (boxBytes 5 n l []) (length-box 5 n l [] (omega arith) (omega arith)) f h)
-      ∙ ap (λ (i : ℕ). singlesOk (contents i b) && sameBytes (boxBytes 5 i (contents i b) []) b) e
-
-  pub tab-law : (n : ℕ) {t₀ : List ℕ} {i j : Bool} → at + 256 ≤ length s → n ≡ min (getD (part s at 256) 1 0) 16 → t₀ ≡ boxBytes 6 n (contents n (part s at 256)) []
-      → t ≡ splice t₀ 232 (part s (at + 232) (at + 232 + n - (at + 232))) → i ≡ keysOk 0 (part s (at + 232) n) → j ≡ singlesOk (contents n (part s at 256)) → o ≡ (i && j)
-      → p ≡ sameBytes (part t 0 256) (part s at 256) → r ≡ (o && p) → r ≡ tabOk (part s at 256)
-  tab-law n q e f g h k w z y =
-      let b = part s at 256 in
-      let l = contents n b in
-      let ks = part b 232 n in
-      let m : length l ≡ n = length-singles n (part b 16 24) (part b 40 192) in
-      let lb : length b ≡ 256 = length-part s at 256 q in
-      let lk : length ks ≡ n = length-part b 232 n (omega arith) in
-      let d : part s (at + 232) n ≡ ks = sym (part-part s at 256 232 n (omega arith)) in
-      let c : t ≡ boxBytes 6 n l ks =
-      g ∙ ap₂ (λ (u v : List ℕ). splice u 232 v) f (part-lent s (at + 232) n ∙ d) ∙ put-keys 6 n l ks (omega arith) (omega arith) in
-      y
-      ∙ ap₂ (λ (u v : Bool). u && v)
-      (w ∙ ap₂ (λ (u v : Bool). u && v) (h ∙ ap (keysOk 0) d) k)
-      (form-same b (boxBytes 6 n l ks) (length-box 6 n l ks (omega arith) (omega arith)) c z)
-      ∙ ap (λ (i : ℕ). (keysOk 0 (part b 232 i) && singlesOk (contents i b)) && sameBytes (boxBytes 6 i (contents i b) (part b 232 i)) b) e

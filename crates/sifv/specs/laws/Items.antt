@@ -9,12 +9,11 @@ use native.Mathlib.Omega.{arith}
 use lib.ListN.{length, getD, take, drop, set, length-append}
 use lib.Seq.{drop-drop, getD-drop}
 use Rattle.lent.specs.Bytes.{beValue, beBytes, part, splice, concat, Wide, none, more}
-use Rattle.lent.specs.laws.Parts.{length-part, length-splice, getD-part, part-all, part-part, part-splice-around, splice-around, splice-over, splice-one, splice-append-left, splice-append-right, splice-all}
+use Rattle.lent.specs.laws.Parts.{length-part, length-splice, getD-part, part-part, part-splice-around, splice-around, splice-over, splice-one, splice-append-left, splice-append-right}
 use Rattle.lent.specs.laws.Slots.{length-concat, splice-concat, map-set}
 use Rattle.sifv.specs.Value.{Single}
 use Rattle.sifv.specs.Slot.{singleKind, wordOf, wordBytes, singleOf, singlesOf, contents}
-use Rattle.sifv.specs.inner.Seen.{shown, singleSeen, headBytes, slotItem, setItem, boxBytes}
-use Rattle.sifv.specs.laws.Laws.{plain-shown, length-singles}
+use Rattle.sifv.specs.inner.Seen.{shown, slotItem, setItem, boxBytes}
 use Rattle.sifv.specs.declared.SifVal.{SifVal}
 use Rattle.sifv.specs.laws.Layout.{length-pad, drop-zeros}
 use Rattle.lent.specs.Lists.{zeros, pad}
@@ -111,7 +110,7 @@ pad-push n l s =
 
 -- ---- the kinds and the numbers of a list of single values
 
-length-kinds : (l : List Single) → length (map singleKind l) ≡ length l
+pub length-kinds : (l : List Single) → length (map singleKind l) ≡ length l
 length-kinds [] = refl
 length-kinds (x ∷ l) = ap suc (length-kinds l)
 
@@ -123,14 +122,14 @@ words-wide : (l : List Single) → Wide 8 (map wordBytes l)
 words-wide [] = none
 words-wide (x ∷ l) = more refl (words-wide l)
 
-length-numbers : (l : List Single) → length (concat (map wordBytes l)) ≡ length l * 8
+pub length-numbers : (l : List Single) → length (concat (map wordBytes l)) ≡ length l * 8
 length-numbers l = length-concat 8 (words-wide l) ∙ ap (λ (k : ℕ). k * 8) (length-words l)
 
-kinds-more : (l : List Single) (x : Single) → map singleKind (l ++ (x ∷ [])) ≡ map singleKind l ++ (singleKind x ∷ [])
+pub kinds-more : (l : List Single) (x : Single) → map singleKind (l ++ (x ∷ [])) ≡ map singleKind l ++ (singleKind x ∷ [])
 kinds-more [] x = refl
 kinds-more (y ∷ l) x = ap (λ (r : List ℕ). singleKind y ∷ r) (kinds-more l x)
 
-words-more : (l : List Single) (x : Single) → concat (map wordBytes (l ++ (x ∷ []))) ≡ concat (map wordBytes l) ++ wordBytes x
+pub words-more : (l : List Single) (x : Single) → concat (map wordBytes (l ++ (x ∷ []))) ≡ concat (map wordBytes l) ++ wordBytes x
 words-more [] x = append-nil (wordBytes x)
 words-more (y ∷ l) x =
     ap (λ (r : List ℕ). wordBytes y ++ r) (words-more l x) ∙ sym (append-assoc (wordBytes y) (concat (map wordBytes l)) (wordBytes x))
@@ -192,22 +191,6 @@ module _ (k n : ℕ) (l : List Single) (x : Single) (keys : List ℕ) where
       (ap (λ (i : ℕ). splice (pad 24 ks) i (singleKind x ∷ [])) (sym lk) ∙ pad-push 24 ks (singleKind x ∷ []) ∙ ap (pad 24) (sym (kinds-more l x)))
       (ap (λ (i : ℕ). splice (pad 192 ws) i (wordBytes x)) (sym lw) ∙ pad-push 192 ws (wordBytes x) ∙ ap (pad 192) (sym (words-more l x)))
 
--- the keys of a slot that has none
-pub put-keys : (k n : ℕ) (l : List Single) (keys : List ℕ) → length l ≤ 24 → length keys ≤ 16 → splice (boxBytes k n l []) 232 keys ≡ boxBytes k n l keys
-put-keys k n l keys h g =
-    let a = pad 24 (map singleKind l) in
-    let b = pad 192 (concat (map wordBytes l)) in
-    let la : length a ≡ 24 = length-pad 24 (map singleKind l) (omega (arith, length-kinds l)) in
-    let lb : length b ≡ 192 = length-pad 192 (concat (map wordBytes l)) (omega (arith, length-numbers l)) in
-    let f = front k n ++ (a ++ b) in
-    let e : (r : List ℕ) → front k n ++ (a ++ (b ++ r)) ≡ f ++ r = λ r. simp append-assoc in
-    let m : length f ≡ 232 = length-append (front k n) (a ++ b) ∙ ap (λ (x : ℕ). 16 + x) (length-append a b ∙ ap₂ (λ (x y : ℕ). x + y) la lb) in
-    ap (λ (x : List ℕ). splice x 232 keys) (e (back []))
-    ∙ ap (λ (x : ℕ). splice (f ++ back []) x keys) (sym (add-zero 232) ∙ ap (λ (x : ℕ). x + 0) (sym m))
-    ∙ splice-mid f (pad 16 []) (zeros 8) 0 keys (omega arith)
-    ∙ ap (λ (x : List ℕ). f ++ (x ++ zeros 8)) (pad-push 16 [] keys)
-    ∙ sym (e (back keys))
-
 pub length-box : (k n : ℕ) (l : List Single) (keys : List ℕ) → length l ≤ 24 → length keys ≤ 16 → length (boxBytes k n l keys) ≡ 256
 length-box k n l keys h g =
     let a = pad 24 (map singleKind l) in
@@ -218,27 +201,3 @@ length-box k n l keys h g =
     let lc : length c ≡ 16 = length-pad 16 keys g in
     length-append (front k n) (a ++ (b ++ (c ++ zeros 8)))
     ∙ ap (λ (x : ℕ). 16 + x) (length-append a (b ++ (c ++ zeros 8)) ∙ ap₂ (λ (x y : ℕ). x + y) la (length-append b (c ++ zeros 8) ∙ ap₂ (λ (x y : ℕ). x + y) lb (length-append c (zeros 8) ∙ ap (λ (x : ℕ). x + 8) lc)))
-
--- a slot that is filled with another's items: its head, and a turn
-pub refill-start : (b : List ℕ) (k n : ℕ) {t t₁ : List ℕ} → t ≡ zeros 256 → t₁ ≡ splice t 0 (headBytes k n 0) → (t₁ ≡ boxBytes k n (contents 0 b) []) × (length t₁ ≡ 256)
-refill-start b k n e f =
-    let r = f ∙ ap (λ (u : List ℕ). splice u 0 (headBytes k n 0)) e in
-    (r, ap length r)
-
-pub refill-turn : (b : List ℕ) (k n i : ℕ) {t t₁ : List ℕ} {v : SifVal} → i < 24 → t ≡ boxBytes k n (contents i b) [] → v ≡ shown (slotItem b i)
-    → t₁ ≡ splice t 0 (setItem (part t 0 256) i (singleSeen v)) → (t₁ ≡ boxBytes k n (contents (i + 1) b) []) × (length t₁ ≡ 256)
-refill-turn b k n i {t} {t₁} {v} h e f g =
-    let l = contents i b in
-    let x = slotItem b i in
-    let m : length l ≡ i = length-singles i (part b 16 24) (part b 40 192) in
-    let lt : length t ≡ 256 = ap length e ∙ length-box k n l [] (omega arith) (omega arith) in
-    let p : part t 0 256 ≡ boxBytes k n l [] = ap (part t 0) (sym lt) ∙ part-all t ∙ e in
-    let a : setItem (part t 0 256) i (singleSeen v) ≡ boxBytes k n (contents (i + 1) b) [] =
-    ap₂ (λ (u : List ℕ) (y : Single). setItem u i y) p (ap singleSeen f ∙ plain-shown x)
-    ∙ ap (λ (j : ℕ). setItem (boxBytes k n l []) j x) (sym m)
-    ∙ push-item k n l x [] (omega arith)
-    ∙ ap (λ (r : List Single). boxBytes k n r []) (sym (contents-more i b h)) in
-    let q : length (contents (i + 1) b) ≡ i + 1 = length-singles (i + 1) (part b 16 24) (part b 40 192) in
-    let la : length (boxBytes k n (contents (i + 1) b) []) ≡ 256 = length-box k n (contents (i + 1) b) [] (omega arith) (omega arith) in
-    let r : t₁ ≡ boxBytes k n (contents (i + 1) b) [] = g ∙ ap (splice t 0) a ∙ splice-all t (boxBytes k n (contents (i + 1) b) []) (la ∙ sym lt) in
-    (r, ap length r ∙ la)

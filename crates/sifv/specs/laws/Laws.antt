@@ -1,19 +1,19 @@
 -- What a slot shows by its first byte; the bytes of values without contents; slots that are written and moved.
 -- Assumes nothing.
-use mathlib.Core.Path.{_≡_, refl, sym, ap, ap₂, _∙_}
+use mathlib.Core.Path.{_≡_, refl, sym, ap, _∙_}
 use mathlib.Core.Bool.{Bool, true, false, cond}
 use mathlib.Core.List.{List, [], _∷_, _++_}
-use mathlib.Core.Option.{Option, none, some}
-use Prim.Native.Nat.{ℕ, zero, suc, _+_, _*_, _-_, _/_, _%_, _^_, _≤_, _<_, min}
+use mathlib.Core.Option.{none, some}
+use Prim.Native.Nat.{ℕ, zero, suc, _+_, _-_, _^_, _≤_, _<_, min}
 use native.Mathlib.Nat.{add-zero}
 use native.Mathlib.Omega.{arith}
 use lib.ListN.{length, getD, drop}
 use lib.Dec.{eqb}
 use borrow.Author.Tests.{ne-eqb, le-leb, lt-leb}
-use Rattle.lent.specs.Bytes.{beValue, beBytes, part, splice}
-use Rattle.lent.specs.laws.Parts.{length-part, length-splice, getD-part, part-part, part-add, part-lent, part-splice-behind, splice-append, splice-part, splice-all}
-use Rattle.lent.specs.laws.Numbers.{beBytes-add, beBytes-high, beValue-beBytes}
-use Rattle.sifv.specs.Value.{Single, Value, One}
+use Rattle.lent.specs.Bytes.{beValue, part, splice}
+use Rattle.lent.specs.laws.Parts.{length-splice, getD-part, part-part, part-splice-behind, splice-append, splice-part}
+use Rattle.lent.specs.laws.Numbers.{beValue-beBytes}
+use Rattle.sifv.specs.Value.{Single, One}
 use Rattle.sifv.specs.Value as model
 use Rattle.sifv.specs.Slot.{singleKind, wordOf, singleOf, singlesOf, entriesOf, contents, encodeSlot, decodeSlot}
 use Rattle.sifv.specs.inner.Seen.{shown, seen, singleSeen, bare, headBytes, kindIn, wordIn, ReadBack}
@@ -84,16 +84,6 @@ encode-bare Null = refl
 encode-bare (Arr n) = refl
 encode-bare (Tab n) = refl
 
--- their bytes behind the first 16
-pub tail-bare : (v : SifVal) → part (encodeSlot (bare v)) 16 240 ≡ zeros 240
-tail-bare v = rw (encode-bare v)
-
-pub tail-empty : part (encodeSlot none) 16 240 ≡ zeros 240
-tail-empty = tail-bare Empty
-
-pub tail-single : (x : Single) → part (encodeSlot (some (One x))) 16 240 ≡ zeros 240
-tail-single x = ap (λ (o : Option Value). part (encodeSlot o) 16 240) (sym (bare-shown x)) ∙ tail-bare (shown x)
-
 -- ---- slots that are written
 
 -- what is there already need not be written
@@ -105,62 +95,6 @@ splice-known d at a b e h =
     splice-append d at a b (omega arith)
     ∙ ap (splice x (at + length a)) (sym p)
     ∙ splice-part x (at + length a) (length b) (omega arith)
-
-two-bytes : (k n : ℕ) → k < 256 → n < 256 → beBytes 2 (k * 256 + n) ≡ k ∷ n ∷ []
-two-bytes k n h l =
-    let p : (k * 256 + n) / 256 % 256 ≡ k = omega arith in
-    let q : (k * 256 + n) / 1 % 256 ≡ n = omega arith in
-    ap₂ (λ (x y : ℕ). x ∷ y ∷ []) p q
-
--- the first 8 bytes of a slot as a number
-pub head-number : (k n : ℕ) → k < 256 → n < 256 → beBytes 8 (k * 0x100_0000_0000_0000 + n * 0x1_0000_0000_0000) ≡ k ∷ n ∷ zeros 6
-head-number k n h l =
-    let m = k * 0x100_0000_0000_0000 + n * 0x1_0000_0000_0000 in
-    let p : m / 0x1_0000_0000_0000 ≡ k * 256 + n = omega arith in
-    let q : m ≡ (k * 256 + n) * 0x1_0000_0000_0000 + 0 = omega arith in
-    beBytes-add 2 6 m
-    ∙ ap₂ (λ (x y : List ℕ). x ++ y)
-    (ap (beBytes 2) p ∙ two-bytes k n h l)
-    (ap (beBytes 6) q ∙ beBytes-high 6 (k * 256 + n) 0)
-
-pub put-head-law : (d : List ℕ) (at k n w : ℕ) {d₁ d₂ : List ℕ} → at ≤ length d → k < 256 → n < 256
-    → d₁ ≡ splice d at (beBytes 8 (k * 0x100_0000_0000_0000 + n * 0x1_0000_0000_0000)) → d₂ ≡ splice d₁ (at + 8) (beBytes 8 w) → d₂ ≡ splice d at (headBytes k n w)
-put-head-law d at k n w l h g p q =
-    q
-    ∙ ap (λ (r : List ℕ). splice r (at + 8) (beBytes 8 w)) (p ∙ ap (splice d at) (head-number k n h g))
-    ∙ sym (splice-append d at (k ∷ n ∷ zeros 6) (beBytes 8 w) l)
-
-head-bare : (v : SifVal) {k w : ℕ} → k ≡ kindIn v → w ≡ wordIn v → headBytes k 0 w ++ zeros 240 ≡ encodeSlot (bare v)
-head-bare v e f = ap₂ (λ (x y : ℕ). headBytes x 0 y ++ zeros 240) e f ∙ sym (encode-bare v)
-
-module _ (d : List ℕ) (at : ℕ) (v : SifVal) {k w : ℕ} {d₁ : List ℕ} (h : at + 256 ≤ length d) (e : k ≡ kindIn v) (f : w ≡ wordIn v) (p : d₁ ≡ splice d at (headBytes k 0 w)) where
-  pub put-single-law : {d₂ : List ℕ} → d₂ ≡ splice d₁ (at + 16) (zeros 240) → d₂ ≡ splice d at (encodeSlot (bare v))
-  put-single-law q =
-      q
-      ∙ ap (λ (r : List ℕ). splice r (at + 16) (zeros 240)) p
-      ∙ sym (splice-append d at (headBytes k 0 w) (zeros 240) (omega arith))
-      ∙ ap (splice d at) (head-bare v e f)
-
-  pub put-over-law : part d (at + 16) 240 ≡ zeros 240 → d₁ ≡ splice d at (encodeSlot (bare v))
-  put-over-law q = p ∙ sym (splice-known d at (headBytes k 0 w) (zeros 240) q (omega arith)) ∙ ap (splice d at) (head-bare v e f)
-
--- ---- slots that are moved, through a list t of their length
-
-pub moved : (d t : List ℕ) (from to n : ℕ) {t₁ d₁ : List ℕ} → length t ≡ n → from + n ≤ length d
-    → t₁ ≡ splice t 0 (part d from (from + n - from)) → d₁ ≡ splice d to t₁ → d₁ ≡ splice d to (part d from n)
-moved d t from to n e h p q =
-    let l : length (part d from n) ≡ length t = length-part d from n h ∙ sym e in
-    q ∙ ap (splice d to) (p ∙ ap (splice t 0) (part-lent d from n) ∙ splice-all t (part d from n) l)
-
-pub moved-over : (d : List ℕ) (from to : ℕ) → from + 256 ≤ length d → to + 256 ≤ length d → part d (from + 16) 240 ≡ part d (to + 16) 240
-    → splice d to (part d from 16) ≡ splice d to (part d from 256)
-moved-over d from to h g e =
-    let a = part d from 16 in
-    let b = part d (from + 16) 240 in
-    let l : length a ≡ 16 = length-part d from 16 (omega arith) in
-    let m : length b ≡ 240 = length-part d (from + 16) 240 (omega arith) in
-    let k : part d (to + length a) (length b) ≡ b = ap₂ (λ (x y : ℕ). part d (to + x) y) l m ∙ sym e in
-    sym (ap (splice d to) (part-add d from 16 240) ∙ splice-known d to a b k (omega arith))
 
 -- ---- a slot that is read: k is its first byte
 
@@ -214,16 +148,6 @@ word-plain (Tab n) = refl
 
 pub kept-word : (x : Single) {w : ℕ} → w ≡ wordOf x → w < 2 ^ 64 → singleOf (singleKind x) w ≡ x → ReadBack x
 kept-word x e h q = ap (singleOf (singleKind x)) (beValue-beBytes 8 (wordOf x) (omega arith) ∙ sym e) ∙ q
-
-pub decode-bare : (v : SifVal) → ReadBack (singleSeen v) → decodeSlot (encodeSlot (bare v)) ≡ bare v
-unfolding encodeSlot decodeSlot
-decode-bare Empty k = refl
-decode-bare (Num x) k = ap (λ (y : Single). some (One y)) k
-decode-bare (Str t) k = ap (λ (y : Single). some (One y)) k
-decode-bare (Bl b) k = ap (λ (y : Single). some (One y)) k
-decode-bare Null k = refl
-decode-bare (Arr n) k = refl
-decode-bare (Tab n) k = refl
 
 pub flag-back : (b : Bool) {w : ℕ} → w ≡ cond b 1 0 → eqb w 1 ≡ b
 flag-back true e = rw e

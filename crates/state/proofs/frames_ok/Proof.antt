@@ -4,44 +4,17 @@ use mathlib.Core.Bool.{Bool, _&&_}
 use Prim.Native.Nat.{ℕ, _-_, _≤_}
 use native.Mathlib.Omega.{arith}
 use lib.Dec.{ltb, eqb}
-use Rattle.vm.specs.StateBytes.{upto}
 use Rattle.state.specs.inner.Fields.{frameOk, frameTest, framesOk}
 use Rattle.state.specs.laws.Checks.{scan-turn, scan-end}
 use Rattle.state.proofs.frames_ok.Statement.{statement}
 use Rattle.state.proofs.frames_ok.Tie as tie
+use Rattle.lent.specs.Lists.{upto}
 
 abbrev Inv-loop : tie.InvT-loop
 Inv-loop state calls n ok₀ i₀ ok i = (i ≤ 24) × (ok ≡ upto i (frameTest state calls n))
 
 abbrev μ-loop : tie.MeasureT-loop
 μ-loop state calls n ok₀ i₀ ok i = 24 - i
-
-loop-holds : tie.Need-loop-holds Inv-loop μ-loop
-loop-holds c = (omega arith, refl)
-
-mul-at : tie.Need-mul-at Inv-loop μ-loop
-mul-at c = omega arith
-
-add-at : tie.Need-add-at Inv-loop μ-loop
-add-at c = omega arith
-
-get-u16-requires : tie.Need-get-u16-requires Inv-loop μ-loop
-get-u16-requires c κs = omega arith
-
-frame-ok-requires : tie.Need-frame-ok-requires Inv-loop μ-loop
-frame-ok-requires c κs = tt
-
-add-get-u16 : tie.Need-add-get-u16 Inv-loop μ-loop
-add-get-u16 c = omega arith
-
-get-u16-requires-2 : tie.Need-get-u16-requires-2 Inv-loop μ-loop
-get-u16-requires-2 c κs = omega arith
-
-add-i : tie.Need-add-i Inv-loop μ-loop
-add-i c = omega arith
-
-loop-less : tie.Need-loop-less Inv-loop μ-loop
-loop-less c = omega arith
 
 loop-again : tie.Need-loop-again Inv-loop μ-loop
 loop-again c =
@@ -61,18 +34,6 @@ returns c =
 
 pub frames-ok-spec : {M : Type 1} → statement M
 frames-ok-spec =
-    tie.close
-    (tie.spec
-    Inv-loop
-    μ-loop
-    loop-holds
-    mul-at
-    add-at
-    get-u16-requires
-    frame-ok-requires
-    add-get-u16
-    get-u16-requires-2
-    add-i
-    loop-less
-    loop-again
-    returns)
+    tie.close (tie.spec Inv-loop μ-loop (λ c. (omega arith, refl)) (λ c. omega arith)
+    (λ c. omega arith) (λ c κs. omega arith) (λ c κs. tt) (λ c. omega arith)
+    (λ c κs. omega arith) (λ c. omega arith) (λ c. omega arith) loop-again returns)

@@ -6,15 +6,6 @@ use borrow.Author.Needs.{needs}
 use Rattle.state.proofs.loc_of.Statement.{statement}
 use Rattle.state.proofs.loc_of.Tie as tie
 
-get-u16-requires : tie.Need-get-u16-requires
-get-u16-requires c κs = search needs
-
-get-u8-requires : tie.Need-get-u8-requires
-get-u8-requires c κs = search needs
-
-get-u8-requires-2 : tie.Need-get-u8-requires-2
-get-u8-requires-2 c κs = omega (arith, c .before .before .before .pre)
-
 returns : tie.Need-returns
 returns c =
     let s = c .before .before .before .before .args .state .now in
@@ -24,4 +15,4 @@ returns c =
     λ i. record { pos = c .before .before .get-u16 .ensures .0 i; depth = d i; calls = e i }
 
 pub loc-of-spec : {M : Type 1} → statement M
-loc-of-spec = tie.close (tie.spec get-u16-requires get-u8-requires get-u8-requires-2 returns)
+loc-of-spec = tie.close (tie.spec (λ c κs. search needs) (λ c κs. search needs) (λ c κs. omega (arith, c .before .before .before .pre)) returns)

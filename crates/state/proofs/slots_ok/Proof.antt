@@ -2,32 +2,17 @@
 use mathlib.Core.Path.{_≡_, refl}
 use Prim.Native.Nat.{_-_, _≤_}
 use native.Mathlib.Omega.{arith}
-use Rattle.vm.specs.StateBytes.{upto}
 use Rattle.state.specs.inner.Fields.{slotTest, slotsOk}
 use Rattle.state.specs.laws.Checks.{scan-turn, scan-end}
 use Rattle.state.proofs.slots_ok.Statement.{statement}
 use Rattle.state.proofs.slots_ok.Tie as tie
+use Rattle.lent.specs.Lists.{upto}
 
 abbrev Inv-loop : tie.InvT-loop
 Inv-loop state ok₀ i₀ ok i = (i ≤ 184) × (ok ≡ upto i (slotTest state))
 
 abbrev μ-loop : tie.MeasureT-loop
 μ-loop state ok₀ i₀ ok i = 184 - i
-
-loop-holds : tie.Need-loop-holds Inv-loop μ-loop
-loop-holds c = (omega arith, refl)
-
-mul-slot-ok : tie.Need-mul-slot-ok Inv-loop μ-loop
-mul-slot-ok c = omega arith
-
-slot-ok-requires : tie.Need-slot-ok-requires Inv-loop μ-loop
-slot-ok-requires c κs = omega arith
-
-add-i : tie.Need-add-i Inv-loop μ-loop
-add-i c = omega arith
-
-loop-less : tie.Need-loop-less Inv-loop μ-loop
-loop-less c = omega arith
 
 loop-again : tie.Need-loop-again Inv-loop μ-loop
 loop-again c =
@@ -43,14 +28,5 @@ returns c =
 
 pub slots-ok-spec : {M : Type 1} → statement M
 slots-ok-spec =
-    tie.close
-    (tie.spec
-    Inv-loop
-    μ-loop
-    loop-holds
-    mul-slot-ok
-    slot-ok-requires
-    add-i
-    loop-less
-    loop-again
-    returns)
+    tie.close (tie.spec Inv-loop μ-loop (λ c. (omega arith, refl)) (λ c. omega arith)
+    (λ c κs. omega arith) (λ c. omega arith) (λ c. omega arith) loop-again returns)

@@ -8,15 +8,6 @@ use borrow.Author.Needs.{needs}
 use Rattle.state.proofs.small_ok.Statement.{statement}
 use Rattle.state.proofs.small_ok.Tie as tie
 
-loc-of-requires : tie.Need-loc-of-requires
-loc-of-requires c κs = search needs
-
-get-u16-requires : tie.Need-get-u16-requires
-get-u16-requires c κs = search needs
-
-all-zero-requires : tie.Need-all-zero-requires
-all-zero-requires c κs = search needs
-
 returns : tie.Need-returns
 returns c =
     let n = c .before .before .before .before .before .before .args .n in
@@ -24,4 +15,4 @@ returns c =
     (ap₂ (λ (x : ℕ) (y : Bool). leb x n && y) (c .before .get-u16 .ensures .0) (c .all-zero .ensures))
 
 pub small-ok-spec : {M : Type 1} → statement M
-small-ok-spec = tie.close (tie.spec loc-of-requires get-u16-requires all-zero-requires returns)
+small-ok-spec = tie.close (tie.spec (λ c κs. search needs) (λ c κs. search needs) (λ c κs. search needs) returns)

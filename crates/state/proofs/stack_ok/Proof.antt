@@ -2,38 +2,17 @@
 use mathlib.Core.Path.{_≡_, refl}
 use Prim.Native.Nat.{_-_, _≤_}
 use native.Mathlib.Omega.{arith}
-use Rattle.vm.specs.StateBytes.{upto}
 use Rattle.state.specs.inner.Fields.{stackTest, stackOk}
 use Rattle.state.specs.laws.Checks.{scan-turn, scan-end}
 use Rattle.state.proofs.stack_ok.Statement.{statement}
 use Rattle.state.proofs.stack_ok.Tie as tie
+use Rattle.lent.specs.Lists.{upto}
 
 abbrev Inv-loop : tie.InvT-loop
 Inv-loop state depth ok₀ i₀ ok i = (i ≤ 24) × (ok ≡ upto i (stackTest state depth))
 
 abbrev μ-loop : tie.MeasureT-loop
 μ-loop state depth ok₀ i₀ ok i = 24 - i
-
-loop-holds : tie.Need-loop-holds Inv-loop μ-loop
-loop-holds c = (omega arith, refl)
-
-mul-place-ok : tie.Need-mul-place-ok Inv-loop μ-loop
-mul-place-ok c = omega arith
-
-add-place-ok : tie.Need-add-place-ok Inv-loop μ-loop
-add-place-ok c = omega arith
-
-shared-slice-read-place-ok : tie.Need-shared-slice-read-place-ok Inv-loop μ-loop
-shared-slice-read-place-ok c = omega arith
-
-place-ok-requires : tie.Need-place-ok-requires Inv-loop μ-loop
-place-ok-requires c κs = tt
-
-add-i : tie.Need-add-i Inv-loop μ-loop
-add-i c = omega arith
-
-loop-less : tie.Need-loop-less Inv-loop μ-loop
-loop-less c = omega arith
 
 loop-again : tie.Need-loop-again Inv-loop μ-loop
 loop-again c =
@@ -50,16 +29,6 @@ returns c =
 
 pub stack-ok-spec : {M : Type 1} → statement M
 stack-ok-spec =
-    tie.close
-    (tie.spec
-    Inv-loop
-    μ-loop
-    loop-holds
-    mul-place-ok
-    add-place-ok
-    shared-slice-read-place-ok
-    place-ok-requires
-    add-i
-    loop-less
-    loop-again
-    returns)
+    tie.close (tie.spec Inv-loop μ-loop (λ c. (omega arith, refl)) (λ c. omega arith)
+    (λ c. omega arith) (λ c. omega arith) (λ c κs. tt) (λ c. omega arith) (λ c. omega arith)
+    loop-again returns)

@@ -7,24 +7,6 @@ use Rattle.state.proofs.start.Statement.{statement}
 use Rattle.state.proofs.start.Tie as tie
 use Rattle.execute.specs.inner.ProgramView.{programIn}
 
-clear-requires : tie.Need-clear-requires
-clear-requires c κs = search needs
-
-sub-copy : tie.Need-sub-copy
-sub-copy c = search needs
-
-part-copy-start : tie.Need-part-copy-start
-part-copy-start c = search needs
-
-part-copy-end : tie.Need-part-copy-end
-part-copy-end c = search needs
-
-copy-requires : tie.Need-copy-requires
-copy-requires c κs = search needs
-
-get-u16-requires : tie.Need-get-u16-requires
-get-u16-requires c κs = search needs
-
 put-u16-requires : tie.Need-put-u16-requires
 put-u16-requires c κs = omega (arith, c .before .before .before .before .copy .kept .0, c .before .before .before .before .before .before .before .before .before .clear .kept .0, c .before .before .before .before .before .before .before .before .before .before .before .before .before .pre .1)
 
@@ -39,14 +21,6 @@ returns c =
 
 pub start-spec : {M : Type 1} → statement M
 start-spec =
-    tie.close
-    (tie.spec
-    clear-requires
-    sub-copy
-    part-copy-start
-    part-copy-end
-    copy-requires
-    get-u16-requires
-    put-u16-requires
-    same-length
-    returns)
+    tie.close (tie.spec (λ c κs. search needs) (λ c. search needs) (λ c. search needs)
+    (λ c. search needs) (λ c κs. search needs) (λ c κs. search needs) put-u16-requires
+    same-length returns)

@@ -11,30 +11,6 @@ use borrow.Author.Needs.{needs}
 use Rattle.state.proofs.state_ok.Statement.{statement}
 use Rattle.state.proofs.state_ok.Tie as tie
 
-loc-of-requires : tie.Need-loc-of-requires
-loc-of-requires c κs = search needs
-
-stack-ok-requires : tie.Need-stack-ok-requires
-stack-ok-requires c κs = search needs
-
-frames-ok-requires : tie.Need-frames-ok-requires
-frames-ok-requires c κs = search needs
-
-fns-ok-requires : tie.Need-fns-ok-requires
-fns-ok-requires c κs = search needs
-
-mark-of-requires : tie.Need-mark-of-requires
-mark-of-requires c κs = search needs
-
-get-u64-requires : tie.Need-get-u64-requires
-get-u64-requires c κs = search needs
-
-small-ok-requires : tie.Need-small-ok-requires
-small-ok-requires c κs = search needs
-
-slots-ok-requires : tie.Need-slots-ok-requires
-slots-ok-requires c κs = search needs
-
 returns : tie.Need-returns
 returns c =
     let b = c .before .before .before .before .before .before .before .before .before .args .state .now in
@@ -49,14 +25,6 @@ returns c =
 
 pub state-ok-spec : {M : Type 1} → statement M
 state-ok-spec =
-    tie.close
-    (tie.spec
-    loc-of-requires
-    stack-ok-requires
-    frames-ok-requires
-    fns-ok-requires
-    mark-of-requires
-    get-u64-requires
-    small-ok-requires
-    slots-ok-requires
-    returns)
+    tie.close (tie.spec (λ c κs. search needs) (λ c κs. search needs) (λ c κs. search needs)
+    (λ c κs. search needs) (λ c κs. search needs) (λ c κs. search needs) (λ c κs. search needs)
+    (λ c κs. search needs) returns)

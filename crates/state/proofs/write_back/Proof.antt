@@ -4,27 +4,6 @@ use borrow.Author.Needs.{needs}
 use Rattle.state.proofs.write_back.Statement.{statement}
 use Rattle.state.proofs.write_back.Tie as tie
 
-mark-of-requires : tie.Need-mark-of-requires
-mark-of-requires c κs = search needs
-
-put-u64-requires : tie.Need-put-u64-requires
-put-u64-requires c κs = search needs
-
-put-u64-requires-2 : tie.Need-put-u64-requires-2
-put-u64-requires-2 c κs = search needs
-
-put-u16-requires : tie.Need-put-u16-requires
-put-u16-requires c κs = search needs
-
-put-u8-requires : tie.Need-put-u8-requires
-put-u8-requires c κs = search needs
-
-put-u8-requires-2 : tie.Need-put-u8-requires-2
-put-u8-requires-2 c κs = search needs
-
-same-length : tie.Need-same-length
-same-length c = search needs
-
 returns : tie.Need-returns
 returns c =
     let s = c .before .before .before .before .before .before .before .before .before .before .before .before .before .before .before .before .before .before .before .before .before .before .before .before in
@@ -33,13 +12,6 @@ returns c =
 
 pub write-back-spec : {M : Type 1} → statement M
 write-back-spec =
-    tie.close
-    (tie.spec
-    mark-of-requires
-    put-u64-requires
-    put-u64-requires-2
-    put-u16-requires
-    put-u8-requires
-    put-u8-requires-2
-    same-length
+    tie.close (tie.spec (λ c κs. search needs) (λ c κs. search needs) (λ c κs. search needs)
+    (λ c κs. search needs) (λ c κs. search needs) (λ c κs. search needs) (λ c. search needs)
     returns)

@@ -7,10 +7,9 @@ use lib.Dec.{leb, ltb, eqb}
 use lib.ListN.{getD}
 use Rattle.lent.specs.Bytes.{beValue, part, sameBytes}
 use Rattle.sifv.specs.Slot.{slotOk}
-use Rattle.vm.specs.StateBytes.{upto}
 use Rattle.execute.specs.declared.Loc.{Loc}
 use Rattle.run.specs.declared.Progress.{Progress}
-use Rattle.lent.specs.Lists.{zeros}
+use Rattle.lent.specs.Lists.{zeros, upto}
 
 abbrev pub locAt : List ℕ → Loc
 locAt b = record { pos = beValue (part b 47344 2); depth = getD b 47346 0; calls = getD b 47347 0 }

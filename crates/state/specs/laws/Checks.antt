@@ -24,7 +24,7 @@ use Rattle.sifv.specs.inner.Seen.{seen, kindIn}
 use Rattle.sifv.specs.laws.Formed.{kind-at-law}
 use Rattle.tables.specs.ProgramBytes.{indexWord}
 use Rattle.vm.specs.Machine.{State}
-use Rattle.vm.specs.StateBytes.{upto, below, mark, frame, orNothing, slotsAt, stackAt, framesAt, functionsAt, wordIndex, encodeState, stateOk}
+use Rattle.vm.specs.StateBytes.{below, mark, frame, orNothing, slotsAt, stackAt, framesAt, functionsAt, wordIndex, encodeState, stateOk}
 use Rattle.vm.specs.laws.StateLaws.{upto-at, slot-at, slot-none, function-at, function-none, stack-push, frames-push, each-map, each-get, each-reverse, state-accepted}
 use Rattle.vm.specs.laws.Kept.{within-all-of, sound-storable}
 use Rattle.execute.specs.inner.View.{namesOf, view, Canon}
@@ -34,7 +34,7 @@ use Rattle.state.specs.inner.Fields.{locAt, markOf, placeOk, frameOk, sl
 use Rattle.state.specs.laws.Marks.{mark-law}
 use Rattle.state.specs.laws.Whole.{accepted-start, accepted-mark, a-byte, written-back}
 use Rattle.execute.specs.laws.Stacks.{frame-end}
-use Rattle.lent.specs.Lists.{zeros}
+use Rattle.lent.specs.Lists.{zeros, upto}
 use Rattle.vm.specs.Storable.{Held}
 
 -- ---- a scan: what is tested so far

@@ -13,7 +13,8 @@ use Rattle.stmt.specs.laws.Arms.{arm-reads, test-ready, test-label, jump
 use Rattle.stmt.specs.laws.ForLaws.{is-a-for, for-room, for-source-reads, head-asks, for-block-reads, for-falls, tail-asks, for-goes}
 use Rattle.stmt.specs.laws.FnLaws.{is-a-fn, fn-block-reads, fn-falls, fn-label, fn-goes}
 use Prim.Native.Nat.{ℕ, _<_}
-use borrow.Fn.Kinds.{In}
+use mathlib.Core.List.{List}
+use borrow.Fn.Kinds.{PK, In}
 use borrow.Fn.PlainCycle.{Measures, is, falls, and}
 use Rattle.stmt.proofs.arm.Reads as arm
 use Rattle.stmt.proofs.arm.Kinds as arm-kinds
@@ -84,79 +85,62 @@ abbrev μ-ifstmt : Measures 3 ifstmt-kinds.ps ℕ
 abbrev μ-stmts : Measures 3 stmts-kinds.ps ℕ
 μ-stmts κs a = (length (a .1 .0 .now) - a .1 .1 .1 .1 .0 .cont) * 8 + 2
 
-abbrev arm-at : ℕ → In 3 arm-kinds.ps
-arm-at t = and 3 arm-kinds.ps (is 3 arm-kinds.ps μ-arm t) arm.Pre
+-- a claim and its measure: at t, and below t
+abbrev at : (ps : List (PK 3)) → Measures 3 ps ℕ → In 3 ps → ℕ → In 3 ps
+at ps μ P t = and 3 ps (is 3 ps μ t) P
 
-abbrev arm-below : ℕ → In 3 arm-kinds.ps
-arm-below t = and 3 arm-kinds.ps (falls 3 arm-kinds.ps _<_ μ-arm t) arm.Pre
+abbrev below : (ps : List (PK 3)) → Measures 3 ps ℕ → In 3 ps → ℕ → In 3 ps
+below ps μ P t = and 3 ps (falls 3 ps _<_ μ t) P
+
+abbrev arm-at : ℕ → In 3 arm-kinds.ps
+arm-at = at arm-kinds.ps μ-arm arm.Pre
 
 abbrev block-at : ℕ → In 3 block-kinds.ps
-block-at t = and 3 block-kinds.ps (is 3 block-kinds.ps μ-block t) block.Pre
-
-abbrev block-below : ℕ → In 3 block-kinds.ps
-block-below t = and 3 block-kinds.ps (falls 3 block-kinds.ps _<_ μ-block t) block.Pre
+block-at = at block-kinds.ps μ-block block.Pre
 
 abbrev blocks-at : ℕ → In 3 blocks-kinds.ps
-blocks-at t = and 3 blocks-kinds.ps (is 3 blocks-kinds.ps μ-blocks t) blocks.Pre
-
-abbrev blocks-below : ℕ → In 3 blocks-kinds.ps
-blocks-below t = and 3 blocks-kinds.ps (falls 3 blocks-kinds.ps _<_ μ-blocks t) blocks.Pre
+blocks-at = at blocks-kinds.ps μ-blocks blocks.Pre
 
 abbrev elif-at : ℕ → In 3 elif-kinds.ps
-elif-at t = and 3 elif-kinds.ps (is 3 elif-kinds.ps μ-elif t) elif.Pre
-
-abbrev elif-below : ℕ → In 3 elif-kinds.ps
-elif-below t = and 3 elif-kinds.ps (falls 3 elif-kinds.ps _<_ μ-elif t) elif.Pre
+elif-at = at elif-kinds.ps μ-elif elif.Pre
 
 abbrev fndecl-at : ℕ → In 3 fndecl-kinds.ps
-fndecl-at t = and 3 fndecl-kinds.ps (is 3 fndecl-kinds.ps μ-fndecl t) fndecl.Pre
-
-abbrev fndecl-below : ℕ → In 3 fndecl-kinds.ps
-fndecl-below t = and 3 fndecl-kinds.ps (falls 3 fndecl-kinds.ps _<_ μ-fndecl t) fndecl.Pre
+fndecl-at = at fndecl-kinds.ps μ-fndecl fndecl.Pre
 
 abbrev forstmt-at : ℕ → In 3 forstmt-kinds.ps
-forstmt-at t = and 3 forstmt-kinds.ps (is 3 forstmt-kinds.ps μ-forstmt t) forstmt.Pre
-
-abbrev forstmt-below : ℕ → In 3 forstmt-kinds.ps
-forstmt-below t = and 3 forstmt-kinds.ps (falls 3 forstmt-kinds.ps _<_ μ-forstmt t) forstmt.Pre
+forstmt-at = at forstmt-kinds.ps μ-forstmt forstmt.Pre
 
 abbrev ifstmt-at : ℕ → In 3 ifstmt-kinds.ps
-ifstmt-at t = and 3 ifstmt-kinds.ps (is 3 ifstmt-kinds.ps μ-ifstmt t) ifstmt.Pre
-
-abbrev ifstmt-below : ℕ → In 3 ifstmt-kinds.ps
-ifstmt-below t = and 3 ifstmt-kinds.ps (falls 3 ifstmt-kinds.ps _<_ μ-ifstmt t) ifstmt.Pre
+ifstmt-at = at ifstmt-kinds.ps μ-ifstmt ifstmt.Pre
 
 abbrev stmts-at : ℕ → In 3 stmts-kinds.ps
-stmts-at t = and 3 stmts-kinds.ps (is 3 stmts-kinds.ps μ-stmts t) stmts.Pre
-
-abbrev stmts-below : ℕ → In 3 stmts-kinds.ps
-stmts-below t = and 3 stmts-kinds.ps (falls 3 stmts-kinds.ps _<_ μ-stmts t) stmts.Pre
+stmts-at = at stmts-kinds.ps μ-stmts stmts.Pre
 
 -- what the functions called ask and ensure
 
 abbrev arm-claims : ℕ → arm-lts.Claims
-arm-claims t = (expr-at-reads.Asked, expr-at-reads.Learnt, jump-false-reads.Asked, jump-false-reads.Learnt, block-below t, block.Post, jump-end-reads.Asked, jump-end-reads.Learnt, update-op-at-reads.Asked, update-op-at-reads.Learnt, elif-below t, elif.Post)
+arm-claims t = (expr-at-reads.Asked, expr-at-reads.Learnt, jump-false-reads.Asked, jump-false-reads.Learnt, below block-kinds.ps μ-block block.Pre t, block.Post, jump-end-reads.Asked, jump-end-reads.Learnt, update-op-at-reads.Asked, update-op-at-reads.Learnt, below elif-kinds.ps μ-elif elif.Pre t, elif.Post)
 
 abbrev block-claims : ℕ → block-lts.Claims
-block-claims t = (pass-reads.Asked, pass-reads.Learnt, blocks-below t, blocks.Post, ifstmt-below t, ifstmt.Post, forstmt-below t, forstmt.Post, ret-reads.Asked, ret-reads.Learnt, expr-stmt-reads.Asked, expr-stmt-reads.Learnt, vardecl-reads.Asked, vardecl-reads.Learnt, fndecl-below t, fndecl.Post)
+block-claims t = (pass-reads.Asked, pass-reads.Learnt, below blocks-kinds.ps μ-blocks blocks.Pre t, blocks.Post, below ifstmt-kinds.ps μ-ifstmt ifstmt.Pre t, ifstmt.Post, below forstmt-kinds.ps μ-forstmt forstmt.Pre t, forstmt.Post, ret-reads.Asked, ret-reads.Learnt, expr-stmt-reads.Asked, expr-stmt-reads.Learnt, vardecl-reads.Asked, vardecl-reads.Learnt, below fndecl-kinds.ps μ-fndecl fndecl.Pre t, fndecl.Post)
 
 abbrev blocks-claims : ℕ → blocks-lts.Claims
-blocks-claims t = (nop-reads.Asked, nop-reads.Learnt, stmts-below t, stmts.Post)
+blocks-claims t = (nop-reads.Asked, nop-reads.Learnt, below stmts-kinds.ps μ-stmts stmts.Pre t, stmts.Post)
 
 abbrev elif-claims : ℕ → elif-lts.Claims
-elif-claims t = (stmts-below t, stmts.Post, if-end-reads.Asked, if-end-reads.Learnt, pass-reads.Asked, pass-reads.Learnt, arm-below t, arm.Post)
+elif-claims t = (below stmts-kinds.ps μ-stmts stmts.Pre t, stmts.Post, if-end-reads.Asked, if-end-reads.Learnt, pass-reads.Asked, pass-reads.Learnt, below arm-kinds.ps μ-arm arm.Pre t, arm.Post)
 
 abbrev fndecl-claims : ℕ → fndecl-lts.Claims
-fndecl-claims t = (fn-head-reads.Asked, fn-head-reads.Learnt, block-below t, block.Post, newlbl-reads.Asked, newlbl-reads.Learnt)
+fndecl-claims t = (fn-head-reads.Asked, fn-head-reads.Learnt, below block-kinds.ps μ-block block.Pre t, block.Post, newlbl-reads.Asked, newlbl-reads.Learnt)
 
 abbrev forstmt-claims : ℕ → forstmt-lts.Claims
-forstmt-claims t = (source-name-reads.Asked, source-name-reads.Learnt, nextreg-reads.Asked, nextreg-reads.Learnt, start-reads.Asked, start-reads.Learnt, source-reads.Asked, source-reads.Learnt, for-head-reads.Asked, for-head-reads.Learnt, block-below t, block.Post, for-tail-reads.Asked, for-tail-reads.Learnt)
+forstmt-claims t = (source-name-reads.Asked, source-name-reads.Learnt, nextreg-reads.Asked, nextreg-reads.Learnt, start-reads.Asked, start-reads.Learnt, source-reads.Asked, source-reads.Learnt, for-head-reads.Asked, for-head-reads.Learnt, below block-kinds.ps μ-block block.Pre t, block.Post, for-tail-reads.Asked, for-tail-reads.Learnt)
 
 abbrev ifstmt-claims : ℕ → ifstmt-lts.Claims
-ifstmt-claims t = (pass-reads.Asked, pass-reads.Learnt, arm-below t, arm.Post)
+ifstmt-claims t = (pass-reads.Asked, pass-reads.Learnt, below arm-kinds.ps μ-arm arm.Pre t, arm.Post)
 
 abbrev stmts-claims : ℕ → stmts-lts.Claims
-stmts-claims t = (block-below t, block.Post)
+stmts-claims t = (below block-kinds.ps μ-block block.Pre t, block.Post)
 
 arm-expr-at-requires : (t : ℕ) → arm-lts.Need-expr-at-requires (arm-claims t) (arm-at t) arm.Post
 arm-expr-at-requires t c κs = arm-reads (c .before .before .before .before .args .n) (c .before .before .before .before .args .rest) (c .before .before .before .before .args .contents .now) (c .before .before .before .before .args .bodies .now) (c .before .before .before .before .args .p) (c .before .before .before .before .pre .1)
@@ -200,80 +184,35 @@ block-pass-requires t c κs = (omega (arith, stmt-room (c .before .before .befor
 block-blocks-requires : (t : ℕ) → block-lts.Need-blocks-requires (block-claims t) (block-at t) block.Post
 block-blocks-requires t c κs = (omega (arith, c .before .before .before .before .before .before .before .before .pre .0, stmt-room (c .before .before .before .before .before .before .before .before .args .contents .now) (c .before .before .before .before .before .before .before .before .args .bodies .now) (c .before .before .before .before .before .before .before .before .args .p) (c .before .before .before .before .before .before .before .before .pre .1), ap (λ (d : Done). d .cont) (c .before .pass .ensures)), block-reads (c .before .before .before .before .before .before .before .before .args .contents .now) (c .before .before .before .before .before .before .before .before .args .bodies .now) (c .before .before .before .before .before .before .before .before .args .p) (c .before .before .before .if1 .taken) (c .before .pass .ensures) (c .before .before .before .before .before .before .before .before .pre .1))
 
-block-same-length : (t : ℕ) → block-lts.Need-same-length (block-claims t) (block-at t) block.Post
-block-same-length t c = c .before .before .blocks2 .kept .1 .1 .1 .1 .1 .0
-
 block-returns : (t : ℕ) → block-lts.Need-returns (block-claims t) (block-at t) block.Post
 block-returns t c = block-goes (c .before .before .before .before .before .before .before .before .before .before .before .args .contents .now) (c .before .before .before .before .before .before .before .before .before .before .before .args .bodies .now) (c .before .before .before .before .before .before .before .before .before .before .before .args .p) (c .before .before .before .before .before .before .if1 .taken) (c .before .before .before .before .pass .ensures) (c .before .before .blocks2 .ensures)
 
 block-ifstmt-requires : (t : ℕ) → block-lts.Need-ifstmt-requires (block-claims t) (block-at t) block.Post
 block-ifstmt-requires t c κs = (omega (arith, c .before .before .before .before .before .before .before .pre .0), (c .before .before .before .before .before .before .before .pre .1, c .before .if2 .taken))
 
-block-same-length-2 : (t : ℕ) → block-lts.Need-same-length-2 (block-claims t) (block-at t) block.Post
-block-same-length-2 t c = c .before .before .ifstmt .kept .1 .1 .1 .1 .0
-
-block-returns-2 : (t : ℕ) → block-lts.Need-returns-2 (block-claims t) (block-at t) block.Post
-block-returns-2 t c = c .before .before .ifstmt .ensures
-
 block-forstmt-requires : (t : ℕ) → block-lts.Need-forstmt-requires (block-claims t) (block-at t) block.Post
 block-forstmt-requires t c κs = (omega (arith, c .before .before .before .before .before .before .before .before .pre .0), (c .before .before .before .before .before .before .before .before .pre .1, c .before .if3 .taken))
-
-block-same-length-3 : (t : ℕ) → block-lts.Need-same-length-3 (block-claims t) (block-at t) block.Post
-block-same-length-3 t c = c .before .before .forstmt .kept .1 .1 .1 .1 .0
-
-block-returns-3 : (t : ℕ) → block-lts.Need-returns-3 (block-claims t) (block-at t) block.Post
-block-returns-3 t c = c .before .before .forstmt .ensures
 
 block-ret-requires : (t : ℕ) → block-lts.Need-ret-requires (block-claims t) (block-at t) block.Post
 block-ret-requires t c κs = (c .before .before .before .before .before .before .before .before .before .pre .1, c .before .if4 .taken)
 
-block-same-length-4 : (t : ℕ) → block-lts.Need-same-length-4 (block-claims t) (block-at t) block.Post
-block-same-length-4 t c = c .before .before .ret .kept .1 .1 .1 .1 .0
-
-block-returns-4 : (t : ℕ) → block-lts.Need-returns-4 (block-claims t) (block-at t) block.Post
-block-returns-4 t c = c .before .before .ret .ensures
-
 block-expr-stmt-requires : (t : ℕ) → block-lts.Need-expr-stmt-requires (block-claims t) (block-at t) block.Post
 block-expr-stmt-requires t c κs = (c .before .before .before .before .before .before .before .before .before .before .pre .1, c .before .if5 .taken)
-
-block-same-length-5 : (t : ℕ) → block-lts.Need-same-length-5 (block-claims t) (block-at t) block.Post
-block-same-length-5 t c = c .before .before .expr-stmt .kept .1 .1 .1 .1 .0
-
-block-returns-5 : (t : ℕ) → block-lts.Need-returns-5 (block-claims t) (block-at t) block.Post
-block-returns-5 t c = c .before .before .expr-stmt .ensures
 
 block-vardecl-requires : (t : ℕ) → block-lts.Need-vardecl-requires (block-claims t) (block-at t) block.Post
 block-vardecl-requires t c κs = (c .before .before .before .before .before .before .before .before .before .before .before .pre .1, c .before .if6 .taken)
 
-block-same-length-6 : (t : ℕ) → block-lts.Need-same-length-6 (block-claims t) (block-at t) block.Post
-block-same-length-6 t c = c .before .before .vardecl .kept .1 .1 .1 .1 .0
-
-block-returns-6 : (t : ℕ) → block-lts.Need-returns-6 (block-claims t) (block-at t) block.Post
-block-returns-6 t c = c .before .before .vardecl .ensures
-
 block-fndecl-requires : (t : ℕ) → block-lts.Need-fndecl-requires (block-claims t) (block-at t) block.Post
 block-fndecl-requires t c κs = (omega (arith, c .before .before .before .before .before .before .before .before .before .before .before .pre .0), (c .before .before .before .before .before .before .before .before .before .before .before .pre .1, others (kind-here (c .before .before .before .before .before .before .before .before .before .before .before .pre .1 .tree) (c .before .before .before .before .before .before .before .before .before .before .before .args .contents .now) (c .before .before .before .before .before .before .before .before .before .before .before .args .bodies .now) (c .before .before .before .before .before .before .before .before .before .before .before .args .p .cont) (c .before .before .before .before .before .before .before .before .before .before .before .args .p .body) (c .before .before .before .before .before .before .before .before .before .before .before .pre .1 .spelt .spells) refl) (c .before .before .before .before .before .before .if1 .left) (c .before .before .before .before .before .if2 .left) (c .before .before .before .before .if3 .left) (c .before .before .before .if4 .left) (c .before .before .if5 .left) (c .before .if6 .left)))
 
-block-same-length-7 : (t : ℕ) → block-lts.Need-same-length-7 (block-claims t) (block-at t) block.Post
-block-same-length-7 t c = c .before .before .fndecl .kept .1 .1 .1 .0
-
 block-returns-7 : (t : ℕ) → block-lts.Need-returns-7 (block-claims t) (block-at t) block.Post
 block-returns-7 t c = c .before .before .fndecl .ensures (c .before .before .before .before .before .before .before .before .before .before .before .before .before .before .args .keep)
-
-blocks-nop-requires : (t : ℕ) → blocks-lts.Need-nop-requires (blocks-claims t) (blocks-at t) blocks.Post
-blocks-nop-requires t c κs = c .before .before .before .before .before .pre .1 .ready
-
-blocks-same-length : (t : ℕ) → blocks-lts.Need-same-length (blocks-claims t) (blocks-at t) blocks.Post
-blocks-same-length t c = c .before .before .nop .kept .1 .1 .0
 
 blocks-returns : (t : ℕ) → blocks-lts.Need-returns (blocks-claims t) (blocks-at t) blocks.Post
 blocks-returns t c = body-none (c .before .before .before .before .before .before .before .before .args .n) (c .before .before .before .before .if1 .taken) (c .before .before .nop .ensures)
 
 blocks-stmts-requires : (t : ℕ) → blocks-lts.Need-stmts-requires (blocks-claims t) (blocks-at t) blocks.Post
 blocks-stmts-requires t c κs = (omega (arith, c .before .before .before .before .before .pre .0), body-list (c .before .before .before .before .before .args .n) (c .before .before .before .before .before .pre .1))
-
-blocks-same-length-2 : (t : ℕ) → blocks-lts.Need-same-length-2 (blocks-claims t) (blocks-at t) blocks.Post
-blocks-same-length-2 t c = c .before .before .stmts .kept .1 .1 .1 .1 .1 .0
 
 blocks-returns-2 : (t : ℕ) → blocks-lts.Need-returns-2 (blocks-claims t) (blocks-at t) blocks.Post
 blocks-returns-2 t c = body-some (c .before .before .before .before .before .before .before .before .args .n) (c .before .before .before .before .if1 .left) (c .before .before .stmts .ensures)
@@ -298,9 +237,6 @@ elif-pass-requires t c κs = (omega (arith, elif-room (c .before .before .before
 
 elif-arm-requires : (t : ℕ) → elif-lts.Need-arm-requires (elif-claims t) (elif-at t) elif.Post
 elif-arm-requires t c κs = (omega (arith, c .before .before .before .before .before .before .pre .0, elif-falls (c .before .before .before .before .before .before .args .contents .now) (c .before .before .before .before .before .before .args .bodies .now) (c .before .before .before .before .before .before .args .p) (c .before .before .before .before .before .before .args .n) (c .before .before .before .before .before .before .args .rest) (c .before .before .if1 .left) (c .before .pass .ensures) (c .before .before .before .before .before .before .args .n - 1) (one-fewer (c .before .before .before .before .before .before .args .n) (c .before .before .if1 .left)) (c .before .before .before .before .before .before .pre .1) .0, elif-falls (c .before .before .before .before .before .before .args .contents .now) (c .before .before .before .before .before .before .args .bodies .now) (c .before .before .before .before .before .before .args .p) (c .before .before .before .before .before .before .args .n) (c .before .before .before .before .before .before .args .rest) (c .before .before .if1 .left) (c .before .pass .ensures) (c .before .before .before .before .before .before .args .n - 1) (one-fewer (c .before .before .before .before .before .before .args .n) (c .before .before .if1 .left)) (c .before .before .before .before .before .before .pre .1) .1), elif-reads (c .before .before .before .before .before .before .args .contents .now) (c .before .before .before .before .before .before .args .bodies .now) (c .before .before .before .before .before .before .args .p) (c .before .before .before .before .before .before .args .n) (c .before .before .before .before .before .before .args .rest) (c .before .before .if1 .left) (c .before .pass .ensures) (c .before .before .before .before .before .before .args .n - 1) (one-fewer (c .before .before .before .before .before .before .args .n) (c .before .before .if1 .left)) (c .before .before .before .before .before .before .pre .1))
-
-elif-same-length-2 : (t : ℕ) → elif-lts.Need-same-length-2 (elif-claims t) (elif-at t) elif.Post
-elif-same-length-2 t c = c .before .before .arm .kept .1 .1 .1 .1 .1 .1 .0
 
 elif-returns-2 : (t : ℕ) → elif-lts.Need-returns-2 (elif-claims t) (elif-at t) elif.Post
 elif-returns-2 t c = elif-goes (c .before .before .before .before .before .before .before .before .before .args .contents .now) (c .before .before .before .before .before .before .before .before .before .args .bodies .now) (c .before .before .before .before .before .before .before .before .before .args .p) (c .before .before .before .before .before .before .before .before .before .args .n) (c .before .before .before .before .before .before .before .before .before .args .rest) (c .before .before .before .before .before .if1 .left) (c .before .before .before .before .pass .ensures) (c .before .before .before .before .before .before .before .before .before .args .n - 1) (one-fewer (c .before .before .before .before .before .before .before .before .before .args .n) (c .before .before .before .before .before .if1 .left)) (c .before .before .arm .ensures)
@@ -342,9 +278,6 @@ forstmt-shared-slice-read-source-name-2 :
     (t : ℕ) → forstmt-lts.Need-shared-slice-read-source-name-2 (forstmt-claims t) (forstmt-at t) forstmt.Post
 forstmt-shared-slice-read-source-name-2 t c = omega (arith, for-room (is-a-for (c .before .before .before .before .before .before .before .pre .1 .0) (c .before .before .before .before .before .before .before .pre .1 .1)) .1, c .before .before .before .before .before .before .before .good .0 .0, c .before .before .before .before .before .before .before .good .1 .0 .0)
 
-forstmt-source-name-requires : (t : ℕ) → forstmt-lts.Need-source-name-requires (forstmt-claims t) (forstmt-at t) forstmt.Post
-forstmt-source-name-requires t c κs = search needs
-
 forstmt-nextreg-requires : (t : ℕ) → forstmt-lts.Need-nextreg-requires (forstmt-claims t) (forstmt-at t) forstmt.Post
 forstmt-nextreg-requires t c κs = c .before .before .before .before .before .before .before .before .pre .1 .0 .ready .registers
 
@@ -353,9 +286,6 @@ forstmt-add-start t c = omega (arith, for-room (is-a-for (c .before .before .bef
 
 forstmt-add-start-2 : (t : ℕ) → forstmt-lts.Need-add-start-2 (forstmt-claims t) (forstmt-at t) forstmt.Post
 forstmt-add-start-2 t c = omega (arith, for-room (is-a-for (c .before .before .before .before .before .before .before .before .before .pre .1 .0) (c .before .before .before .before .before .before .before .before .before .pre .1 .1)) .1, c .before .before .before .before .before .before .before .before .before .good .0 .0, c .before .before .before .before .before .before .before .before .before .good .1 .0 .0)
-
-forstmt-start-requires : (t : ℕ) → forstmt-lts.Need-start-requires (forstmt-claims t) (forstmt-at t) forstmt.Post
-forstmt-start-requires t c κs = search needs
 
 forstmt-source-requires : (t : ℕ) → forstmt-lts.Need-source-requires (forstmt-claims t) (forstmt-at t) forstmt.Post
 forstmt-source-requires t c κs = for-source-reads (is-a-for (c .before .before .before .before .before .before .before .before .before .before .before .pre .1 .0) (c .before .before .before .before .before .before .before .before .before .before .before .pre .1 .1)) (c .before .before .before .before .before .before .before .before .before .before .before .pre .1 .0 .ready) (c .before .before .nextreg .ensures) (c .before .start .ensures)
@@ -396,9 +326,6 @@ ifstmt-pass-requires t c κs = (omega (arith, stmt-room (c .before .before .befo
 ifstmt-arm-requires : (t : ℕ) → ifstmt-lts.Need-arm-requires (ifstmt-claims t) (ifstmt-at t) ifstmt.Post
 ifstmt-arm-requires t c κs = (omega (arith, c .before .before .before .before .before .before .before .pre .0, stmt-room (c .before .before .before .before .before .before .before .args .contents .now) (c .before .before .before .before .before .before .before .args .bodies .now) (c .before .before .before .before .before .before .before .args .p) (c .before .before .before .before .before .before .before .pre .1 .0), ap (λ (d : Done). d .cont) (c .before .pass .ensures)), if-reads (c .before .before .before .before .before .before .before .args .contents .now) (c .before .before .before .before .before .before .before .args .bodies .now) (c .before .before .before .before .before .before .before .args .p) (c .before .before .before .before .before .before .before .pre .1 .1) (c .before .pass .ensures) (getD (c .before .before .before .before .before .before .before .args .bodies .now) (c .before .before .before .before .before .before .before .args .p .body) 0) (getD (c .before .before .before .before .before .before .before .args .contents .now) (c .before .before .before .before .before .before .before .args .p .cont + 1) 0 - 2 - getD (c .before .before .before .before .before .before .before .args .bodies .now) (c .before .before .before .before .before .before .before .args .p .body) 0) refl (omega (arith, if-counts (c .before .before .before .before .before .before .before .args .contents .now) (c .before .before .before .before .before .before .before .args .bodies .now) (c .before .before .before .before .before .before .before .args .p) (c .before .before .before .before .before .before .before .pre .1 .1) (c .before .before .before .before .before .before .before .pre .1 .0) .0)) (c .before .before .before .before .before .before .before .pre .1 .0))
 
-ifstmt-same-length : (t : ℕ) → ifstmt-lts.Need-same-length (ifstmt-claims t) (ifstmt-at t) ifstmt.Post
-ifstmt-same-length t c = c .before .before .arm .kept .1 .1 .1 .1 .1 .1 .0
-
 ifstmt-returns : (t : ℕ) → ifstmt-lts.Need-returns (ifstmt-claims t) (ifstmt-at t) ifstmt.Post
 ifstmt-returns t c = if-goes (c .before .before .before .before .before .before .before .before .before .before .args .contents .now) (c .before .before .before .before .before .before .before .before .before .before .args .bodies .now) (c .before .before .before .before .before .before .before .before .before .before .args .p) (c .before .before .before .before .before .before .before .before .before .before .pre .1 .1) (c .before .before .before .before .pass .ensures) (getD (c .before .before .before .before .before .before .before .before .before .before .args .bodies .now) (c .before .before .before .before .before .before .before .before .before .before .args .p .body) 0) (getD (c .before .before .before .before .before .before .before .before .before .before .args .contents .now) (c .before .before .before .before .before .before .before .before .before .before .args .p .cont + 1) 0 - 2 - getD (c .before .before .before .before .before .before .before .before .before .before .args .bodies .now) (c .before .before .before .before .before .before .before .before .before .before .args .p .body) 0) refl (omega (arith, if-counts (c .before .before .before .before .before .before .before .before .before .before .args .contents .now) (c .before .before .before .before .before .before .before .before .before .before .args .bodies .now) (c .before .before .before .before .before .before .before .before .before .before .args .p) (c .before .before .before .before .before .before .before .before .before .before .pre .1 .1) (c .before .before .before .before .before .before .before .before .before .before .pre .1 .0) .0)) (c .before .before .arm .ensures)
 
@@ -408,11 +335,6 @@ stmts-Inv-loop n contents bodies keep out₀ q₀ more₀ out q more = (length o
 abbrev stmts-μ-loop : stmts-lts.MeasureT-loop
 stmts-μ-loop n contents bodies keep out₀ q₀ more₀ out q more = more
 
-stmts-loop-holds :
-    (t : ℕ) →
-    stmts-lts.Need-loop-holds (stmts-claims t) (stmts-at t) stmts.Post stmts-Inv-loop stmts-μ-loop
-stmts-loop-holds t c = (refl, left-start (c .before .before .before .pre .1))
-
 stmts-block-requires :
     (t : ℕ) →
     stmts-lts.Need-block-requires (stmts-claims t) (stmts-at t) stmts.Post stmts-Inv-loop stmts-μ-loop
@@ -420,16 +342,6 @@ stmts-block-requires t c κs =
     let l = c .before .before .loop in
     let z : l .more ≡ 0 → ⊥ = λ e. omega (arith, e) in
     (omega (arith, c .before .before .before .before .before .before .pre .0, l .inv .1 .behind), list-first (l .more) z (l .inv .1 .reads))
-
-stmts-sub-more :
-    (t : ℕ) →
-    stmts-lts.Need-sub-more (stmts-claims t) (stmts-at t) stmts.Post stmts-Inv-loop stmts-μ-loop
-stmts-sub-more t c = omega arith
-
-stmts-loop-less :
-    (t : ℕ) →
-    stmts-lts.Need-loop-less (stmts-claims t) (stmts-at t) stmts.Post stmts-Inv-loop stmts-μ-loop
-stmts-loop-less t c = omega arith
 
 stmts-loop-again :
     (t : ℕ) →
@@ -441,11 +353,6 @@ stmts-loop-again t c =
     let s : suc (l .more - 1) ≡ l .more = omega arith in
     (search needs, left-turn (l .inv .1) (omega (arith, list-falls (l .more) z g (l .inv .1 .reads) .0)) (list-next (l .more) z g (l .more - 1) s (l .inv .1 .reads)) (λ r d x. list-goes (l .more) z g (l .more - 1) s x))
 
-stmts-same-length :
-    (t : ℕ) →
-    stmts-lts.Need-same-length (stmts-claims t) (stmts-at t) stmts.Post stmts-Inv-loop stmts-μ-loop
-stmts-same-length t c = c .before .loop .inv .0
-
 stmts-returns :
     (t : ℕ) →
     stmts-lts.Need-returns (stmts-claims t) (stmts-at t) stmts.Post stmts-Inv-loop stmts-μ-loop
@@ -453,117 +360,52 @@ stmts-returns t c = left-end (c .before .loop .inv .1) (list-none (c .before .lo
 
 pub +arm+block+blocks+elif+fndecl+forstmt+ifstmt+stmts-spec : {M : Type 1} → statement M
 +arm+block+blocks+elif+fndecl+forstmt+ifstmt+stmts-spec =
-    close μ-arm μ-block μ-blocks μ-elif μ-fndecl μ-forstmt μ-ifstmt μ-stmts (λ t. arm-lts.spec (arm-claims t)
-    (arm-at t)
-    arm.Post
-    (arm-expr-at-requires t)
-    (arm-jump-false-requires t)
-    (arm-block-requires t)
-    (arm-jump-end-requires t)
-    (arm-update-op-at-requires t)
-    (arm-elif-requires t)
-    (arm-update-op-at-requires-2 t)
-    (arm-same-length t)
-    (arm-returns t))
-    (λ t. block-lts.spec (block-claims t)
-    (block-at t)
-    block.Post
-    (block-shared-slice-read-kind t)
-    (block-add-blocks t)
-    (block-shared-slice-read-blocks t)
-    (block-pass-requires t)
-    (block-blocks-requires t)
-    (block-same-length t)
-    (block-returns t)
-    (block-ifstmt-requires t)
-    (block-same-length-2 t)
-    (block-returns-2 t)
-    (block-forstmt-requires t)
-    (block-same-length-3 t)
-    (block-returns-3 t)
-    (block-ret-requires t)
-    (block-same-length-4 t)
-    (block-returns-4 t)
-    (block-expr-stmt-requires t)
-    (block-same-length-5 t)
-    (block-returns-5 t)
-    (block-vardecl-requires t)
-    (block-same-length-6 t)
-    (block-returns-6 t)
-    (block-fndecl-requires t)
-    (block-same-length-7 t)
-    (block-returns-7 t))
-    (λ t. blocks-lts.spec (blocks-claims t)
-    (blocks-at t)
-    blocks.Post
-    (blocks-nop-requires t)
-    (blocks-same-length t)
-    (blocks-returns t)
-    (blocks-stmts-requires t)
-    (blocks-same-length-2 t)
+    close μ-arm μ-block μ-blocks μ-elif μ-fndecl μ-forstmt μ-ifstmt μ-stmts
+    (λ t. arm-lts.spec (arm-claims t) (arm-at t) arm.Post (arm-expr-at-requires t)
+    (arm-jump-false-requires t) (arm-block-requires t) (arm-jump-end-requires t)
+    (arm-update-op-at-requires t) (arm-elif-requires t) (arm-update-op-at-requires-2 t)
+    (arm-same-length t) (arm-returns t))
+    (λ t. block-lts.spec (block-claims t) (block-at t) block.Post
+    (block-shared-slice-read-kind t) (block-add-blocks t) (block-shared-slice-read-blocks t)
+    (block-pass-requires t) (block-blocks-requires t)
+    (λ c. c .before .before .blocks2 .kept .1 .1 .1 .1 .1 .0) (block-returns t)
+    (block-ifstmt-requires t) (λ c. c .before .before .ifstmt .kept .1 .1 .1 .1 .0)
+    (λ c. c .before .before .ifstmt .ensures) (block-forstmt-requires t)
+    (λ c. c .before .before .forstmt .kept .1 .1 .1 .1 .0)
+    (λ c. c .before .before .forstmt .ensures) (block-ret-requires t)
+    (λ c. c .before .before .ret .kept .1 .1 .1 .1 .0)
+    (λ c. c .before .before .ret .ensures) (block-expr-stmt-requires t)
+    (λ c. c .before .before .expr-stmt .kept .1 .1 .1 .1 .0)
+    (λ c. c .before .before .expr-stmt .ensures) (block-vardecl-requires t)
+    (λ c. c .before .before .vardecl .kept .1 .1 .1 .1 .0)
+    (λ c. c .before .before .vardecl .ensures) (block-fndecl-requires t)
+    (λ c. c .before .before .fndecl .kept .1 .1 .1 .0) (block-returns-7 t))
+    (λ t. blocks-lts.spec (blocks-claims t) (blocks-at t) blocks.Post
+    (λ c κs. c .before .before .before .before .before .pre .1 .ready)
+    (λ c. c .before .before .nop .kept .1 .1 .0) (blocks-returns t)
+    (blocks-stmts-requires t) (λ c. c .before .before .stmts .kept .1 .1 .1 .1 .1 .0)
     (blocks-returns-2 t))
-    (λ t. elif-lts.spec (elif-claims t)
-    (elif-at t)
-    elif.Post
-    (elif-stmts-requires t)
-    (elif-if-end-requires t)
-    (elif-same-length t)
-    (elif-returns t)
-    (elif-sub-arm t)
-    (elif-pass-requires t)
-    (elif-arm-requires t)
-    (elif-same-length-2 t)
-    (elif-returns-2 t))
-    (λ t. fndecl-lts.spec (fndecl-claims t)
-    (fndecl-at t)
-    fndecl.Post
-    (fndecl-fn-head-requires t)
-    (fndecl-block-requires t)
-    (fndecl-newlbl-requires t)
-    (fndecl-same-length t)
-    (fndecl-returns t))
-    (λ t. forstmt-lts.spec (forstmt-claims t)
-    (forstmt-at t)
-    forstmt.Post
-    (forstmt-shared-slice-read-i t)
-    (forstmt-add-v t)
-    (forstmt-shared-slice-read-v t)
-    (forstmt-add-source-name t)
-    (forstmt-shared-slice-read-source-name t)
-    (forstmt-add-source-name-2 t)
-    (forstmt-shared-slice-read-source-name-2 t)
-    (forstmt-source-name-requires t)
-    (forstmt-nextreg-requires t)
-    (forstmt-add-start t)
-    (forstmt-add-start-2 t)
-    (forstmt-start-requires t)
-    (forstmt-source-requires t)
-    (forstmt-for-head-requires t)
-    (forstmt-block-requires t)
-    (forstmt-for-tail-requires t)
-    (forstmt-same-length t)
-    (forstmt-returns t))
-    (λ t. ifstmt-lts.spec (ifstmt-claims t)
-    (ifstmt-at t)
-    ifstmt.Post
-    (ifstmt-shared-slice-read-n t)
-    (ifstmt-add-rest t)
-    (ifstmt-shared-slice-read-rest t)
-    (ifstmt-sub-rest t)
-    (ifstmt-sub-rest-2 t)
-    (ifstmt-pass-requires t)
-    (ifstmt-arm-requires t)
-    (ifstmt-same-length t)
+    (λ t. elif-lts.spec (elif-claims t) (elif-at t) elif.Post (elif-stmts-requires t)
+    (elif-if-end-requires t) (elif-same-length t) (elif-returns t) (elif-sub-arm t)
+    (elif-pass-requires t) (elif-arm-requires t)
+    (λ c. c .before .before .arm .kept .1 .1 .1 .1 .1 .1 .0) (elif-returns-2 t))
+    (λ t. fndecl-lts.spec (fndecl-claims t) (fndecl-at t) fndecl.Post
+    (fndecl-fn-head-requires t) (fndecl-block-requires t) (fndecl-newlbl-requires t)
+    (fndecl-same-length t) (fndecl-returns t))
+    (λ t. forstmt-lts.spec (forstmt-claims t) (forstmt-at t) forstmt.Post
+    (forstmt-shared-slice-read-i t) (forstmt-add-v t) (forstmt-shared-slice-read-v t)
+    (forstmt-add-source-name t) (forstmt-shared-slice-read-source-name t)
+    (forstmt-add-source-name-2 t) (forstmt-shared-slice-read-source-name-2 t)
+    (λ c κs. search needs) (forstmt-nextreg-requires t) (forstmt-add-start t)
+    (forstmt-add-start-2 t) (λ c κs. search needs) (forstmt-source-requires t)
+    (forstmt-for-head-requires t) (forstmt-block-requires t) (forstmt-for-tail-requires t)
+    (forstmt-same-length t) (forstmt-returns t))
+    (λ t. ifstmt-lts.spec (ifstmt-claims t) (ifstmt-at t) ifstmt.Post
+    (ifstmt-shared-slice-read-n t) (ifstmt-add-rest t) (ifstmt-shared-slice-read-rest t)
+    (ifstmt-sub-rest t) (ifstmt-sub-rest-2 t) (ifstmt-pass-requires t)
+    (ifstmt-arm-requires t) (λ c. c .before .before .arm .kept .1 .1 .1 .1 .1 .1 .0)
     (ifstmt-returns t))
-    λ t. stmts-lts.spec (stmts-claims t)
-    (stmts-at t)
-    stmts.Post
-    stmts-Inv-loop
-    stmts-μ-loop
-    (stmts-loop-holds t)
-    (stmts-block-requires t)
-    (stmts-sub-more t)
-    (stmts-loop-less t)
-    (stmts-loop-again t)
-    (stmts-same-length t)
-    (stmts-returns t)
+    (λ t. stmts-lts.spec (stmts-claims t) (stmts-at t) stmts.Post stmts-Inv-loop stmts-μ-loop
+    (λ c. (refl, left-start (c .before .before .before .pre .1))) (stmts-block-requires t)
+    (λ c. omega arith) (λ c. omega arith) (stmts-loop-again t)
+    (λ c. c .before .loop .inv .0) (stmts-returns t))

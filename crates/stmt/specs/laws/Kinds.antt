@@ -1,22 +1,23 @@
 -- Which statement stands at a place, by its kind; and where its parts stand. Assumes nothing.
 use Prim.Native.Nat.{ℕ, _+_, _-_, _≤_}
 use mathlib.Core.Path.{_≡_, refl, sym, ap, _∙_}
-use mathlib.Core.Bool.{Bool, true, false}
-use mathlib.Core.List.{List, _∷_, _++_}
+use mathlib.Core.Bool.{Bool}
+use mathlib.Core.List.{List, _∷_}
 use native.Mathlib.Omega.{arith}
-use lib.ListN.{length, drop, getD, length-append, length-drop}
+use lib.ListN.{length, drop, getD, length-drop}
 use lib.Seq.{drop-drop}
 use Rattle.ast.specs.Node.{Kind, Node, node}
-use Rattle.ast.specs.Tree.{Expr, Literal, Val, Text, Truth, Name, BinaryExpr, UnaryExpr, VarAssign, ArrayMut, FnCall, Rhs, Source}
+use Rattle.ast.specs.Tree.{Expr, Rhs, Source}
 use Rattle.ast.specs.Tree.{Stmt, Block, IfStmt, ForStmt, Return, ReturnExpr, ExprStmt, VarDecl, VarInit, FnDecl, Stmts, Rest}
-use Rattle.ast.specs.Flat.{flatExpr, flatStmt, entryBytes, bodyBytes}
+use Rattle.ast.specs.Flat.{flatStmt, entryBytes, bodyBytes}
 use Rattle.compiler.specs.Lower.{Place}
 use Rattle.emit.specs.declared.Done.{Done}
 use Rattle.emit.specs.inner.Run.{Ready}
 use Rattle.emit.specs.inner.Made.{Spells, Made, Part, ReadsAt, Goes}
 use Rattle.emit.specs.laws.Laws.{some-place}
-use Rattle.emit.specs.laws.Spell.{entry-append, body-append, in-node, first-kind, fits-nodes, fits-bodies}
+use Rattle.emit.specs.laws.Spell.{in-node, first-kind, fits-nodes, fits-bodies}
 use Rattle.emit.specs.laws.Places.{made-ready}
+pub use Rattle.emit.specs.laws.Spell.{entries-both, bodies-both, expr-size}
 use Rattle.stmt.specs.laws.Leaves.{byte-here, byte-at}
 
 pub data Is : ℕ → Stmt → Type 0 where
@@ -68,24 +69,6 @@ stmt-size (ExprStmt e) = omega arith
 stmt-size (VarDecl x) = omega arith
 stmt-size (VarInit x r) = omega arith
 stmt-size (FnDecl f ps k) = omega arith
-
-pub expr-size : (e : Expr) → 2 ≤ length (entryBytes (flatExpr e))
-expr-size (Literal (Val b)) = omega arith
-expr-size (Literal (Text t)) = omega arith
-expr-size (Literal (Truth true)) = omega arith
-expr-size (Literal (Truth false)) = omega arith
-expr-size (Name x) = omega arith
-expr-size (BinaryExpr t a b) = omega arith
-expr-size (UnaryExpr t a) = omega arith
-expr-size (VarAssign x r) = omega arith
-expr-size (ArrayMut x i v) = omega arith
-expr-size (FnCall f ps) = omega arith
-
-pub entries-both : (ns ms : List Node) → length (entryBytes (ns ++ ms)) ≡ length (entryBytes ns) + length (entryBytes ms)
-entries-both ns ms = ap length (entry-append ns ms) ∙ length-append (entryBytes ns) (entryBytes ms)
-
-pub bodies-both : (ns ms : List Node) → length (bodyBytes (ns ++ ms)) ≡ length (bodyBytes ns) + length (bodyBytes ms)
-bodies-both ns ms = ap length (body-append ns ms) ∙ length-append (bodyBytes ns) (bodyBytes ms)
 
 -- ---- where a node's parts stand
 

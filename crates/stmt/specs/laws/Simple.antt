@@ -8,7 +8,7 @@ use lib.ListN.{length, drop, getD}
 use Rattle.sifv.specs.Value.{One, Null}
 use Rattle.opc.specs.Op.{Stc, FnRet, FnStackPush, Instr, instr}
 use Rattle.opc.specs.Record.{Fields, fields, fieldBytes}
-use Rattle.ast.specs.Tree.{Expr, Rhs, Stmt, Return, ExprStmt, VarDecl, VarInit}
+use Rattle.ast.specs.Tree.{Expr, Rhs, Stmt, VarInit}
 use Rattle.ast.specs.Flat.{flatExpr, flatStmt, entryBytes, bodyBytes}
 use Rattle.compiler.specs.Lower.{Place, push, prev, exprRegs, stmtLabels, lowerExpr, lowerStmt}
 use Rattle.emit.specs.declared.Done.{Done}

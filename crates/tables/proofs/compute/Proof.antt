@@ -9,9 +9,6 @@ use Rattle.tables.specs.laws.EntryLaws.{functions-begun, labels-length, 
 use Rattle.tables.proofs.compute.Statement.{statement}
 use Rattle.tables.proofs.compute.Tie as tie
 
-label-table-requires : tie.Need-label-table-requires
-label-table-requires c κs = search needs
-
 functions-requires : tie.Need-functions-requires
 functions-requires c κs =
     let s = c .before .before .before .before .before .before in
@@ -26,9 +23,6 @@ functions-requires c κs =
       ),
     )
 
-same-length : tie.Need-same-length
-same-length c = search needs
-
 returns : tie.Need-returns
 returns c cs r =
     let s = c .before .before .before .before .before .before .before .before .before in
@@ -40,4 +34,4 @@ returns c cs r =
     ∙ ap (λ (d : List ℕ). splice d 34816 (functionBytes cs)) e
 
 pub compute-spec : {M : Type 1} → statement M
-compute-spec = tie.close (tie.spec label-table-requires functions-requires same-length returns)
+compute-spec = tie.close (tie.spec (λ c κs. search needs) functions-requires (λ c. search needs) returns)

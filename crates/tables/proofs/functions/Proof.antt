@@ -1,4 +1,4 @@
-use Prim.Native.Nat.{ℕ, _+_, _*_, _-_, _≤_}
+use Prim.Native.Nat.{_+_, _*_, _-_, _≤_}
 use mathlib.Core.Path.{_≡_, refl, _∙_}
 use mathlib.Core.Option.{none}
 use native.Mathlib.Omega.{arith}
@@ -19,26 +19,8 @@ Inv-loop program₀ n i₀ program i =
 abbrev μ-loop : tie.MeasureT-loop
 μ-loop program₀ n i₀ program i = n - i
 
-loop-holds : tie.Need-loop-holds Inv-loop μ-loop
-loop-holds c = (omega arith, refl, λ cs h. turned-start (functionsGo 0) h)
-
-mul-name : tie.Need-mul-name Inv-loop μ-loop
-mul-name c = omega arith
-
-add-name : tie.Need-add-name Inv-loop μ-loop
-add-name c = omega arith
-
-slice-read-name : tie.Need-slice-read-name Inv-loop μ-loop
-slice-read-name c = omega arith
-
 cast-name : tie.Need-cast-name Inv-loop μ-loop
 cast-name c = omega (arith, c .slice-known2 .given (16 * c .before .before .loop .i + 4))
-
-mul-hit : tie.Need-mul-hit Inv-loop μ-loop
-mul-hit c = omega arith
-
-slice-read-hit : tie.Need-slice-read-hit Inv-loop μ-loop
-slice-read-hit c = omega arith
 
 mul-enter : tie.Need-mul-enter Inv-loop μ-loop
 mul-enter c = omega (arith, c .before .before .slice-known2 .given (16 * c .before .before .before .before .loop .i + 4))
@@ -52,12 +34,6 @@ enter-requires c κs =
     let l = c .before .before .before .before .loop in
     (omega (arith, c .before .before .slice-known2 .given (16 * l .i + 4), s .pre .0 .0, l .inv .1), omega arith)
 
-add-i : tie.Need-add-i Inv-loop μ-loop
-add-i c = omega arith
-
-loop-less : tie.Need-loop-less Inv-loop μ-loop
-loop-less c = omega arith
-
 loop-again : tie.Need-loop-again Inv-loop μ-loop
 loop-again c =
     let s = c .before .before .before .before .before .before .before .before .before in
@@ -70,30 +46,13 @@ loop-again c =
       λ cs h. functions-next (l .inv .2 cs h) i (s .pre .0 .1) (omega (arith, s .pre .0 .0, l .inv .1)) e,
     )
 
-same-length : tie.Need-same-length Inv-loop μ-loop
-same-length c = c .before .loop .inv .1
-
 returns : tie.Need-returns Inv-loop μ-loop
 returns c cs h = let s = c .before .before .before in let l = c .before .loop in turned-end (functionsGo (l .i)) (l .inv .2 cs h) (omega arith) (omega (arith, s .pre .0 .0, l .inv .1)) (λ g x. refl)
 
 pub functions-spec : {M : Type 1} → statement M
 functions-spec =
-    tie.close
-    (tie.spec
-    Inv-loop
-    μ-loop
-    loop-holds
-    mul-name
-    add-name
-    slice-read-name
-    cast-name
-    mul-hit
-    slice-read-hit
-    mul-enter
-    add-enter
-    enter-requires
-    add-i
-    loop-less
-    loop-again
-    same-length
-    returns)
+    tie.close (tie.spec Inv-loop μ-loop
+    (λ c. (omega arith, refl, λ cs h. turned-start (functionsGo 0) h)) (λ c. omega arith)
+    (λ c. omega arith) (λ c. omega arith) cast-name (λ c. omega arith) (λ c. omega arith)
+    mul-enter add-enter enter-requires (λ c. omega arith) (λ c. omega arith) loop-again
+    (λ c. c .before .loop .inv .1) returns)

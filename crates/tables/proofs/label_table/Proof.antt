@@ -4,12 +4,6 @@ use Rattle.tables.specs.laws.EntryLaws.{first, first-length, labels-begu
 use Rattle.tables.proofs.label_table.Statement.{statement}
 use Rattle.tables.proofs.label_table.Tie as tie
 
-put-u16-requires : tie.Need-put-u16-requires
-put-u16-requires c κs = search needs
-
-get-u16-requires : tie.Need-get-u16-requires
-get-u16-requires c κs = search needs
-
 labels-requires : tie.Need-labels-requires
 labels-requires c κs =
     let s = c .before .before .before .before .before .before .before .before .before in
@@ -19,9 +13,6 @@ labels-requires c κs =
       (omega (arith, first-length b _ (h .0 .0) e, h .0 .0), h .0 .1),
       (h .1 .0, first, labels-begun b _ (h .0 .0) e (h .1 .0) (s .args .n) (h .0 .1) (h .0 .2) (h .1 .1)),
     )
-
-same-length : tie.Need-same-length
-same-length c = search needs
 
 returns : tie.Need-returns
 returns c cs r =
@@ -39,5 +30,5 @@ returns-2 c cs r =
 
 pub label-table-spec : {M : Type 1} → statement M
 label-table-spec =
-    tie.close
-    (tie.spec put-u16-requires get-u16-requires labels-requires same-length returns returns-2)
+    tie.close (tie.spec (λ c κs. search needs) (λ c κs. search needs) labels-requires
+    (λ c. search needs) returns returns-2)

@@ -3,7 +3,6 @@ use mathlib.Core.Path.{_≡_, refl, _∙_}
 use mathlib.Core.Bool.{not}
 use mathlib.Core.Option.{Option}
 use native.Mathlib.Omega.{arith}
-use borrow.Author.Needs.{needs}
 use lib.Dec.{eqb}
 use lib.ListN.{length}
 use Rattle.opc.specs.Op.{Code}
@@ -24,32 +23,11 @@ abbrev μ-loop : tie.MeasureT-loop
 loop-holds : tie.Need-loop-holds Inv-loop μ-loop
 loop-holds c = (omega arith, refl, λ cs f h. turned-start (labelsGo (c .before .args .first) 0) h)
 
-mul-get-u16 : tie.Need-mul-get-u16 Inv-loop μ-loop
-mul-get-u16 c = omega arith
-
-add-get-u16 : tie.Need-add-get-u16 Inv-loop μ-loop
-add-get-u16 c = omega arith
-
-get-u16-requires : tie.Need-get-u16-requires Inv-loop μ-loop
-get-u16-requires c κs = omega arith
-
-mul-enter : tie.Need-mul-enter Inv-loop μ-loop
-mul-enter c = omega arith
-
-add-enter : tie.Need-add-enter Inv-loop μ-loop
-add-enter c = omega arith
-
 enter-requires : tie.Need-enter-requires Inv-loop μ-loop
 enter-requires c κs =
     let s = c .before .before .before .before .before .before in
     let l = c .before .before .before .before .loop in
     (omega (arith, label-small-next (l .inv .2 (s .pre .1 .0) (s .pre .1 .1) (s .pre .1 .2)) (c .before .before .before .loop-test .taken) (c .before .get-u16 .ensures .0), s .pre .0 .0, l .inv .1), omega arith)
-
-add-i : tie.Need-add-i Inv-loop μ-loop
-add-i c = omega arith
-
-loop-less : tie.Need-loop-less Inv-loop μ-loop
-loop-less c = omega arith
 
 loop-again : tie.Need-loop-again Inv-loop μ-loop
 loop-again c =
@@ -60,27 +38,11 @@ loop-again c =
     let x = label-small-next (t (s .pre .1 .0) (s .pre .1 .1) (s .pre .1 .2)) i (c .before .before .before .before .get-u16 .ensures .0) in
     (omega arith, entered-length 32768 (c .before .before .before .before .get-u16 .result) (l .i) (not (eqb (c .before .before .before .before .get-u16 .result) (l .was))) (l .program) _ (omega (arith, x, s .pre .0 .0, l .inv .1)) (c .before .before .enter .ensures) ∙ l .inv .1, λ cs f h. labels-next (t cs f h) i (s .pre .0 .1) (omega (arith, s .pre .0 .0, l .inv .1)) (c .before .before .before .before .get-u16 .ensures .0) (c .before .before .enter .ensures))
 
-same-length : tie.Need-same-length Inv-loop μ-loop
-same-length c = c .before .loop .inv .1
-
 returns : tie.Need-returns Inv-loop μ-loop
 returns c cs f h = let s = c .before .before .before in let l = c .before .loop in turned-end (labelsGo (l .was) (l .i)) (l .inv .2 cs f h) (omega arith) (omega (arith, s .pre .0 .0, l .inv .1)) (λ g x. refl)
 
 pub labels-spec : {M : Type 1} → statement M
 labels-spec =
-    tie.close
-    (tie.spec
-    Inv-loop
-    μ-loop
-    loop-holds
-    mul-get-u16
-    add-get-u16
-    get-u16-requires
-    mul-enter
-    add-enter
-    enter-requires
-    add-i
-    loop-less
-    loop-again
-    same-length
-    returns)
+    tie.close (tie.spec Inv-loop μ-loop loop-holds (λ c. omega arith) (λ c. omega arith)
+    (λ c κs. omega arith) (λ c. omega arith) (λ c. omega arith) enter-requires
+    (λ c. omega arith) (λ c. omega arith) loop-again (λ c. c .before .loop .inv .1) returns)

@@ -1,4 +1,3 @@
-use borrow.Author.Needs.{needs}
 use Rattle.text.specs.laws.Digits.{digits-none, digits-one, digits-then}
 use Rattle.text.specs.laws.PutLaws.{put-length, put-within}
 use mathlib.Core.Path.{_∙_}
@@ -30,72 +29,36 @@ put-digits-below t =
 abbrev put-digits-claims : ℕ → put-digits-lts.Claims
 put-digits-claims t = (low-reads.Asked, low-reads.Learnt, put-reads.Asked, put-reads.Learnt, put-digits-below t, put-digits.Post)
 
--- src/lib.rt:41:9
 put-digits-returns : (t : ℕ) → put-digits-lts.Need-returns (put-digits-claims t) (put-digits-at t) put-digits.Post
 put-digits-returns t c = let s = c .before .before in digits-none (s .pre .1) (s .args .k) (s .args .n) (c .if1 .taken)
 
--- src/lib.rt:44:39
-put-digits-add-low : (t : ℕ) → put-digits-lts.Need-add-low (put-digits-claims t) (put-digits-at t) put-digits.Post
-put-digits-add-low t c = omega (arith, c .before .if2 .taken)
-
--- src/lib.rt:44:29
-put-digits-low-requires : (t : ℕ) → put-digits-lts.Need-low-requires (put-digits-claims t) (put-digits-at t) put-digits.Post
-put-digits-low-requires t c κs = tt
-
--- src/lib.rt:44:9
 put-digits-put-requires : (t : ℕ) → put-digits-lts.Need-put-requires (put-digits-claims t) (put-digits-at t) put-digits.Post
 put-digits-put-requires t c κs = omega (arith, c .before .before .before .before .before .pre .1)
 
--- src/lib.rt:44:9
 put-digits-same-length : (t : ℕ) → put-digits-lts.Need-same-length (put-digits-claims t) (put-digits-at t) put-digits.Post
 put-digits-same-length t c = put-length (c .before .before .before .before .before .before .before .before .pre .1) (c .before .before .put .ensures)
 
--- src/lib.rt:44:9
 put-digits-returns-2 : (t : ℕ) → put-digits-lts.Need-returns-2 (put-digits-claims t) (put-digits-at t) put-digits.Post
 put-digits-returns-2 t c = let s = c .before .before .before .before .before .before .before .before in digits-one (s .pre .1) (s .args .k) (s .args .n) (c .before .before .before .before .before .before .if1 .left) (c .before .before .before .before .before .if2 .taken) (c .before .before .before .low .ensures) (c .before .before .put .ensures)
 
--- src/lib.rt:46:33
-put-digits-sub-put-digits : (t : ℕ) → put-digits-lts.Need-sub-put-digits (put-digits-claims t) (put-digits-at t) put-digits.Post
-put-digits-sub-put-digits t c = omega (arith, c .before .before .if1 .left)
-
--- src/lib.rt:46:9
 put-digits-put-digits-requires : (t : ℕ) → put-digits-lts.Need-put-digits-requires (put-digits-claims t) (put-digits-at t) put-digits.Post
 put-digits-put-digits-requires t c κs = (omega (arith, c .before .before .before .before .pre .0, c .before .before .if1 .left), omega (arith, c .before .before .before .before .pre .1))
 
--- src/lib.rt:47:27
-put-digits-add-low-2 : (t : ℕ) → put-digits-lts.Need-add-low-2 (put-digits-claims t) (put-digits-at t) put-digits.Post
-put-digits-add-low-2 t c = omega arith
-
--- src/lib.rt:47:17
-put-digits-low-requires-2 : (t : ℕ) → put-digits-lts.Need-low-requires-2 (put-digits-claims t) (put-digits-at t) put-digits.Post
-put-digits-low-requires-2 t c κs = tt
-
--- src/lib.rt:47:5
 put-digits-put-requires-2 : (t : ℕ) → put-digits-lts.Need-put-requires-2 (put-digits-claims t) (put-digits-at t) put-digits.Post
 put-digits-put-requires-2 t c κs = omega (arith, put-within (c .before .before .before .before .before .before .before .before .before .pre .1) (c .before .before .before .before .put-digits .ensures))
 
--- src/lib.rt:36:1
 put-digits-same-length-2 : (t : ℕ) → put-digits-lts.Need-same-length-2 (put-digits-claims t) (put-digits-at t) put-digits.Post
 put-digits-same-length-2 t c = let s = c .before .before .before .before .before .before .before .before .before .before .before .before in put-length (put-within (s .pre .1) (c .before .before .before .before .before .before .before .put-digits .ensures)) (c .before .before .put2 .ensures) ∙ put-length (s .pre .1) (c .before .before .before .before .before .before .before .put-digits .ensures)
 
--- src/lib.rt:36:1
 put-digits-returns-3 : (t : ℕ) → put-digits-lts.Need-returns-3 (put-digits-claims t) (put-digits-at t) put-digits.Post
 put-digits-returns-3 t c = let s = c .before .before .before .before .before .before .before .before .before .before .before .before in digits-then (s .pre .1) (s .args .k) (s .args .n) (c .before .before .before .before .before .before .before .before .before .before .if1 .left) (c .before .before .before .before .before .before .before .before .before .if2 .left) (c .before .before .before .low2 .ensures) (c .before .before .before .before .before .before .before .put-digits .ensures) (c .before .before .put2 .ensures)
 
 pub +put-digits-spec : {M : Type 1} → statement M
-+put-digits-spec = close μ-put-digits λ t. put-digits-lts.spec (put-digits-claims t)
-    (put-digits-at t)
-    put-digits.Post
-    (put-digits-returns t)
-    (put-digits-add-low t)
-    (put-digits-low-requires t)
-    (put-digits-put-requires t)
-    (put-digits-same-length t)
-    (put-digits-returns-2 t)
-    (put-digits-sub-put-digits t)
-    (put-digits-put-digits-requires t)
-    (put-digits-add-low-2 t)
-    (put-digits-low-requires-2 t)
-    (put-digits-put-requires-2 t)
-    (put-digits-same-length-2 t)
-    (put-digits-returns-3 t)
++put-digits-spec =
+    close μ-put-digits
+    (λ t. put-digits-lts.spec (put-digits-claims t) (put-digits-at t) put-digits.Post
+    (put-digits-returns t) (λ c. omega (arith, c .before .if2 .taken)) (λ c κs. tt)
+    (put-digits-put-requires t) (put-digits-same-length t) (put-digits-returns-2 t)
+    (λ c. omega (arith, c .before .before .if1 .left)) (put-digits-put-digits-requires t)
+    (λ c. omega arith) (λ c κs. tt) (put-digits-put-requires-2 t)
+    (put-digits-same-length-2 t) (put-digits-returns-3 t))

@@ -1,4 +1,3 @@
-use borrow.Author.Needs.{needs}
 use Prim.Native.Nat.{_-_}
 use Rattle.text.specs.laws.Digits.{hex-none, hex-then, power-less, power-some}
 use Rattle.text.specs.laws.PutLaws.{put-length, put-within}
@@ -35,47 +34,29 @@ put-digits16-below t =
 abbrev put-digits16-claims : ℕ → put-digits16-lts.Claims
 put-digits16-claims t = (hex-digit-reads.Asked, hex-digit-reads.Learnt, put-reads.Asked, put-reads.Learnt, put-digits16-below t, put-digits16.Post)
 
--- src/lib.rt:73:9
 put-digits16-returns : (t : ℕ) → put-digits16-lts.Need-returns (put-digits16-claims t) (put-digits16-at t) put-digits16.Post
 put-digits16-returns t c = let s = c .before .before in hex-none (s .pre .1 .0) (s .args .k) (s .args .n) (c .if1 .taken)
 
--- src/lib.rt:75:36
 put-digits16-div-hex-digit : (t : ℕ) → put-digits16-lts.Need-div-hex-digit (put-digits16-claims t) (put-digits16-at t) put-digits16.Post
 put-digits16-div-hex-digit t c = let s = c .before .before .before in power-some (s .args .k - 1) (s .args .p) (s .pre .1 .2 (omega (arith, c .before .if1 .left)))
 
--- src/lib.rt:75:26
-put-digits16-hex-digit-requires : (t : ℕ) → put-digits16-lts.Need-hex-digit-requires (put-digits16-claims t) (put-digits16-at t) put-digits16.Post
-put-digits16-hex-digit-requires t c κs = omega arith
-
--- src/lib.rt:75:9
-put-digits16-put-requires : (t : ℕ) → put-digits16-lts.Need-put-requires (put-digits16-claims t) (put-digits16-at t) put-digits16.Post
-put-digits16-put-requires t c κs = omega (arith, c .before .before .before .before .pre .1 .0)
-
--- src/lib.rt:76:26
 put-digits16-sub-put-digits16 : (t : ℕ) → put-digits16-lts.Need-sub-put-digits16 (put-digits16-claims t) (put-digits16-at t) put-digits16.Post
 put-digits16-sub-put-digits16 t c = omega (arith, c .before .before .before .before .before .before .if1 .left)
 
--- src/lib.rt:76:5
 put-digits16-put-digits16-requires : (t : ℕ) → put-digits16-lts.Need-put-digits16-requires (put-digits16-claims t) (put-digits16-at t) put-digits16.Post
 put-digits16-put-digits16-requires t c κs = let s = c .before .before .before .before .before .before .before .before in (omega (arith, s .pre .0, c .before .before .before .before .before .before .if1 .left), (omega (arith, put-within (s .pre .1 .0) (c .before .before .before .put .ensures)), omega (arith, s .pre .1 .1), λ z. power-less (s .args .k) (s .args .p) (omega arith) (s .pre .1 .2 (omega (arith, c .before .before .before .before .before .before .if1 .left)))))
 
--- src/lib.rt:68:1
 put-digits16-same-length : (t : ℕ) → put-digits16-lts.Need-same-length (put-digits16-claims t) (put-digits16-at t) put-digits16.Post
 put-digits16-same-length t c = let s = c .before .before .before .before .before .before .before .before .before .before .before in put-length (put-within (s .pre .1 .0) (c .before .before .before .before .before .before .put .ensures)) (c .before .before .put-digits16 .ensures) ∙ put-length (s .pre .1 .0) (c .before .before .before .before .before .before .put .ensures)
 
--- src/lib.rt:68:1
 put-digits16-returns-2 : (t : ℕ) → put-digits16-lts.Need-returns-2 (put-digits16-claims t) (put-digits16-at t) put-digits16.Post
 put-digits16-returns-2 t c = let s = c .before .before .before .before .before .before .before .before .before .before .before in hex-then (s .pre .1 .0) (s .args .k) (s .args .n) (s .args .p) (c .before .before .before .before .before .before .before .before .before .if1 .left) (s .pre .1 .2 (omega (arith, c .before .before .before .before .before .before .before .before .before .if1 .left))) (c .before .before .before .before .before .before .before .hex-digit .ensures) (c .before .before .before .before .before .before .put .ensures) (c .before .before .put-digits16 .ensures)
 
 pub +put-digits16-spec : {M : Type 1} → statement M
-+put-digits16-spec = close μ-put-digits16 λ t. put-digits16-lts.spec (put-digits16-claims t)
-    (put-digits16-at t)
-    put-digits16.Post
-    (put-digits16-returns t)
-    (put-digits16-div-hex-digit t)
-    (put-digits16-hex-digit-requires t)
-    (put-digits16-put-requires t)
-    (put-digits16-sub-put-digits16 t)
-    (put-digits16-put-digits16-requires t)
-    (put-digits16-same-length t)
-    (put-digits16-returns-2 t)
++put-digits16-spec =
+    close μ-put-digits16
+    (λ t. put-digits16-lts.spec (put-digits16-claims t) (put-digits16-at t) put-digits16.Post
+    (put-digits16-returns t) (put-digits16-div-hex-digit t) (λ c κs. omega arith)
+    (λ c κs. omega (arith, c .before .before .before .before .pre .1 .0))
+    (put-digits16-sub-put-digits16 t) (put-digits16-put-digits16-requires t)
+    (put-digits16-same-length t) (put-digits16-returns-2 t))

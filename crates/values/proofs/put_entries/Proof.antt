@@ -11,10 +11,6 @@ use mathlib.Core.Path.{_≡_, subst}
 use native.Mathlib.Omega.{arith}
 use Rattle.values.proofs.put_entries.Statement.{statement}
 use Rattle.values.proofs.put_entries.Tie as tie
-use Rattle.values.proofs.put_entries.Reads as reads
-use Rattle.values.proofs.put_entries.Lts as lts
-use Rattle.text.proofs.put_gap.Reads as put-gap-reads
-use Rattle.values.proofs.put_entry.Reads as put-entry-reads
 
 abbrev Inv-loop : tie.InvT-loop
 Inv-loop out₀ at state from n p₀ i₀ out p i = (i ≤ n) × Put out₀ at (joined (ascii ",") (map entryText (entriesIn i (part state from 256)))) out p
@@ -22,49 +18,30 @@ Inv-loop out₀ at state from n p₀ i₀ out p i = (i ≤ n) × Put out₀ at (
 abbrev μ-loop : tie.MeasureT-loop
 μ-loop out₀ at state from n p₀ i₀ out p i = n - i
 
--- src/lib.rt:47:5
 loop-holds : tie.Need-loop-holds Inv-loop μ-loop
 loop-holds c = let s = c .before .before in (omega arith, put-none (s .args .out .now) (s .args .at) (s .pre .0))
 
--- src/lib.rt:48:13
 put-gap-requires : tie.Need-put-gap-requires Inv-loop μ-loop
 put-gap-requires c κs = let s = c .before .before .before .before .before in omega (arith, put-within (s .pre .0) (c .before .before .loop .inv .1))
 
--- src/lib.rt:49:9
-put-entry-requires : tie.Need-put-entry-requires Inv-loop μ-loop
-put-entry-requires c κs = search needs
-
--- src/lib.rt:50:9
-add-i : tie.Need-add-i Inv-loop μ-loop
-add-i c = search needs
-
--- src/lib.rt:47:5
-loop-less : tie.Need-loop-less Inv-loop μ-loop
-loop-less c = omega arith
-
--- src/lib.rt:47:5
 loop-again : tie.Need-loop-again Inv-loop μ-loop
-loop-again c = let s = c .before .before .before .before .before .before .before .before .before .before .before .before in let l = c .before .before .before .before .before .before .before .before .before .loop in let t = c .before .before .before .before .before .before .before .before .loop-test .taken in (omega arith, entries-turn (s .pre .0) (part (s .args .state .now) (s .args .from) 256) (l .i) (omega (arith, t, s .pre .2)) (l .inv .1) (c .before .before .before .before .before .before .put-gap .ensures) (c .before .before .put-entry .ensures))
+loop-again c =
+    let s = c .before .before .before .before .before .before .before .before .before .before .before .before in
+    let l = c .before .before .before .before .before .before .before .before .before .loop in
+    let t = c .before .before .before .before .before .before .before .before .loop-test .taken in
+    (omega arith, entries-turn (s .pre .0) (part (s .args .state .now) (s .args .from) 256) (l .i) (omega (arith, t, s .pre .2)) (l .inv .1) (c .before .before .before .before .before .before .put-gap .ensures) (c .before .before .put-entry .ensures))
 
--- src/lib.rt:41:1
 same-length : tie.Need-same-length Inv-loop μ-loop
 same-length c = put-length (c .before .before .before .before .pre .0) (c .before .loop .inv .1)
 
--- src/lib.rt:41:1
 returns : tie.Need-returns Inv-loop μ-loop
-returns c = let s = c .before .before .before .before in let l = c .before .loop in let e : l .i ≡ s .args .n = omega (arith, l .inv .0, c .loop-test .left) in subst (λ (k : ℕ). Put (s .args .out .now) (s .args .at) (joined (ascii ",") (map entryText (entriesIn k (part (s .args .state .now) (s .args .from) 256)))) (l .out) (l .p)) e (l .inv .1)
+returns c =
+    let s = c .before .before .before .before in
+    let l = c .before .loop in
+    let e : l .i ≡ s .args .n = omega (arith, l .inv .0, c .loop-test .left) in
+    subst (λ (k : ℕ). Put (s .args .out .now) (s .args .at) (joined (ascii ",") (map entryText (entriesIn k (part (s .args .state .now) (s .args .from) 256)))) (l .out) (l .p)) e (l .inv .1)
 
 pub put-entries-spec : {M : Type 1} → statement M
 put-entries-spec =
-    tie.close
-    (tie.spec
-    Inv-loop
-    μ-loop
-    loop-holds
-    put-gap-requires
-    put-entry-requires
-    add-i
-    loop-less
-    loop-again
-    same-length
-    returns)
+    tie.close (tie.spec Inv-loop μ-loop loop-holds put-gap-requires (λ c κs. search needs)
+    (λ c. search needs) (λ c. omega arith) loop-again same-length returns)

@@ -11,11 +11,6 @@ use mathlib.Core.Path.{_≡_, subst}
 use native.Mathlib.Omega.{arith}
 use Rattle.values.proofs.put_items.Statement.{statement}
 use Rattle.values.proofs.put_items.Tie as tie
-use Rattle.values.proofs.put_items.Reads as reads
-use Rattle.values.proofs.put_items.Lts as lts
-use Rattle.sifv.proofs.get_item.Reads as get-item-reads
-use Rattle.text.proofs.put_gap.Reads as put-gap-reads
-use Rattle.text.proofs.put_single.Reads as put-single-reads
 
 abbrev Inv-loop : tie.InvT-loop
 Inv-loop out₀ at state from n p₀ i₀ out p i = (i ≤ n) × Put out₀ at (joined (ascii ",") (map singleText (contents i (part state from 256)))) out p
@@ -23,54 +18,30 @@ Inv-loop out₀ at state from n p₀ i₀ out p i = (i ≤ n) × Put out₀ at (
 abbrev μ-loop : tie.MeasureT-loop
 μ-loop out₀ at state from n p₀ i₀ out p i = n - i
 
--- src/lib.rt:21:5
 loop-holds : tie.Need-loop-holds Inv-loop μ-loop
 loop-holds c = let s = c .before .before in (omega arith, put-none (s .args .out .now) (s .args .at) (s .pre .0))
 
--- src/lib.rt:22:13
 put-gap-requires : tie.Need-put-gap-requires Inv-loop μ-loop
 put-gap-requires c κs = let s = c .before .before .before .before .before in omega (arith, put-within (s .pre .0) (c .before .before .loop .inv .1))
 
--- src/lib.rt:23:38
-get-item-requires : tie.Need-get-item-requires Inv-loop μ-loop
-get-item-requires c κs = search needs
-
--- src/lib.rt:23:9
-put-single-requires : tie.Need-put-single-requires Inv-loop μ-loop
-put-single-requires c κs = search needs
-
--- src/lib.rt:24:9
-add-i : tie.Need-add-i Inv-loop μ-loop
-add-i c = search needs
-
--- src/lib.rt:21:5
-loop-less : tie.Need-loop-less Inv-loop μ-loop
-loop-less c = omega arith
-
--- src/lib.rt:21:5
 loop-again : tie.Need-loop-again Inv-loop μ-loop
-loop-again c = let s = c .before .before .before .before .before .before .before .before .before .before .before .before .before in let l = c .before .before .before .before .before .before .before .before .before .before .loop in let t = c .before .before .before .before .before .before .before .before .before .loop-test .taken in (omega arith, items-turn (s .pre .0) (part (s .args .state .now) (s .args .from) 256) (l .i) (omega (arith, t, s .pre .2)) (l .inv .1) (c .before .before .before .before .before .before .before .put-gap .ensures) (c .before .before .before .get-item .ensures) (c .before .before .put-single .ensures))
+loop-again c =
+    let s = c .before .before .before .before .before .before .before .before .before .before .before .before .before in
+    let l = c .before .before .before .before .before .before .before .before .before .before .loop in
+    let t = c .before .before .before .before .before .before .before .before .before .loop-test .taken in
+    (omega arith, items-turn (s .pre .0) (part (s .args .state .now) (s .args .from) 256) (l .i) (omega (arith, t, s .pre .2)) (l .inv .1) (c .before .before .before .before .before .before .before .put-gap .ensures) (c .before .before .before .get-item .ensures) (c .before .before .put-single .ensures))
 
--- src/lib.rt:15:1
 same-length : tie.Need-same-length Inv-loop μ-loop
 same-length c = put-length (c .before .before .before .before .pre .0) (c .before .loop .inv .1)
 
--- src/lib.rt:15:1
 returns : tie.Need-returns Inv-loop μ-loop
-returns c = let s = c .before .before .before .before in let l = c .before .loop in let e : l .i ≡ s .args .n = omega (arith, l .inv .0, c .loop-test .left) in subst (λ (k : ℕ). Put (s .args .out .now) (s .args .at) (joined (ascii ",") (map singleText (contents k (part (s .args .state .now) (s .args .from) 256)))) (l .out) (l .p)) e (l .inv .1)
+returns c =
+    let s = c .before .before .before .before in
+    let l = c .before .loop in
+    let e : l .i ≡ s .args .n = omega (arith, l .inv .0, c .loop-test .left) in
+    subst (λ (k : ℕ). Put (s .args .out .now) (s .args .at) (joined (ascii ",") (map singleText (contents k (part (s .args .state .now) (s .args .from) 256)))) (l .out) (l .p)) e (l .inv .1)
 
 pub put-items-spec : {M : Type 1} → statement M
 put-items-spec =
-    tie.close
-    (tie.spec
-    Inv-loop
-    μ-loop
-    loop-holds
-    put-gap-requires
-    get-item-requires
-    put-single-requires
-    add-i
-    loop-less
-    loop-again
-    same-length
-    returns)
+    tie.close (tie.spec Inv-loop μ-loop loop-holds put-gap-requires (λ c κs. search needs)
+    (λ c κs. search needs) (λ c. search needs) (λ c. omega arith) loop-again same-length returns)

@@ -9,10 +9,10 @@ use native.Mathlib.Omega.{arith}
 use lib.Dec.{T, leb, leb→le}
 use mir.Facts.{and-yes}
 use Rattle.tables.specs.Tables.{Program}
-use Rattle.ast.specs.Tree.{Expr, Stmt, Stmts, Rest}
+use Rattle.ast.specs.Tree.{Expr, Stmts, Rest}
 use Rattle.ast.specs.Structure.{exprOk, sourceOk, stmtOk, stmtsOk, restOk}
 use Rattle.compiler.specs.Lower.{Place, Event, top, lowerTree, refusal, programOf, lowered, lower}
-use Rattle.compiler.specs.laws.Events.{pushesIn, Mono, end, took, asked, then, Emits, Nests, block-emits, stmts-emits}
+use Rattle.compiler.specs.laws.Events.{pushesIn, Mono, end, took, asked, then, Nests, block-emits, stmts-emits}
 use Rattle.compiler.specs.laws.Accepted.{not-refused, decided}
 use Rattle.walk.specs.Bound.{longest, total, bound}
 use Rattle.walk.specs.laws.ShortArrays.{ok-longest}

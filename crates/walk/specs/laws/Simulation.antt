@@ -6,4 +6,4 @@ pub mod Stores
 pub mod Stmts
 pub mod Loop
 pub mod Sound
-pub mod Turns
+pub mod Portions

@@ -15,7 +15,7 @@ use Rattle.walk.specs.Bound.{bound}
 use Rattle.walk.specs.laws.Bounded.{walk-within, walk-stops-within, plain-code}
 use Rattle.walk.specs.Runs.{needed, runs}
 use Rattle.walk.specs.laws.Simulation.Sound.{program-is, script}
-use Rattle.walk.specs.laws.Simulation.Turns.{Reach, reach, needed-some, needed-least, needed-most, once, runs-once, beyond, reached, still, answers, run-count}
+use Rattle.walk.specs.laws.Simulation.Portions.{Reach, reach, needed-some, needed-least, needed-most, once, runs-once, beyond, reached, still, answers, run-count}
 use Rattle.lent.specs.Lists.{sum}
 use Rattle.walk.specs.Statements.{Bounds, Ended, Simulates, Lowers, Served}
 

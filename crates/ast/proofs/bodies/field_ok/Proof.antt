@@ -8,23 +8,11 @@ use Rattle.ast.proofs.bodies.field_ok.Tie as tie
 shared-slice-read-wide : tie.Need-shared-slice-read-wide
 shared-slice-read-wide c = let e = c .before .if1 .taken in room 0 (c .before .before .before .args .kind) (c .before .before .before .args .bodies .now) (c .before .before .before .pre .1) 1 (rw e)
 
-wide-requires : tie.Need-wide-requires
-wide-requires c κs = search needs
-
-within-requires : tie.Need-within-requires
-within-requires c κs = search needs
-
 returns : tie.Need-returns
 returns c = rw (c .within .ensures, c .before .wide .ensures .0) (binary-field (c .before .before .before .before .before .args .texts) (c .before .before .before .before .before .args .kind) (c .before .before .before .before .before .args .bodies .now) (c .before .before .before .before .before .pre .1) (c .before .before .before .if1 .taken))
 
 shared-slice-read-wide-2 : tie.Need-shared-slice-read-wide-2
 shared-slice-read-wide-2 c = let e = c .before .if2 .taken in room 0 (c .before .before .before .before .args .kind) (c .before .before .before .before .args .bodies .now) (c .before .before .before .before .pre .1) 1 (rw e)
-
-wide-requires-2 : tie.Need-wide-requires-2
-wide-requires-2 c κs = search needs
-
-within-requires-2 : tie.Need-within-requires-2
-within-requires-2 c κs = search needs
 
 returns-2 : tie.Need-returns-2
 returns-2 c = rw (c .within2 .ensures, c .before .wide2 .ensures .0) (unary-field (c .before .before .before .before .before .before .args .texts) (c .before .before .before .before .before .before .args .kind) (c .before .before .before .before .before .before .args .bodies .now) (c .before .before .before .before .before .before .pre .1) (c .before .before .before .if2 .taken))
@@ -32,29 +20,14 @@ returns-2 c = rw (c .within2 .ensures, c .before .wide2 .ensures .0) (unary-fiel
 shared-slice-read-wide-3 : tie.Need-shared-slice-read-wide-3
 shared-slice-read-wide-3 c = let e = c .before .if3 .taken in omega (arith, room 0 (c .before .before .before .before .before .args .kind) (c .before .before .before .before .before .args .bodies .now) (c .before .before .before .before .before .pre .1) 2 (rw e))
 
-wide-requires-3 : tie.Need-wide-requires-3
-wide-requires-3 c κs = search needs
-
 shared-slice-read-wide-4 : tie.Need-shared-slice-read-wide-4
 shared-slice-read-wide-4 c = let e = c .before .before .before .if3 .taken in omega (arith, room 0 (c .before .before .before .before .before .before .before .args .kind) (c .before .before .before .before .before .before .before .args .bodies .now) (c .before .before .before .before .before .before .before .pre .1) 2 (rw e))
-
-wide-requires-4 : tie.Need-wide-requires-4
-wide-requires-4 c κs = search needs
 
 returns-3 : tie.Need-returns-3
 returns-3 c = rw (c .wide4 .ensures .0, c .before .before .wide3 .ensures .0) (for-field (c .before .before .before .before .before .before .before .before .args .texts) (c .before .before .before .before .before .before .before .before .args .kind) (c .before .before .before .before .before .before .before .before .args .bodies .now) (c .before .before .before .before .before .before .before .before .pre .1) (c .before .before .before .before .if3 .taken))
 
 returns-4 : tie.Need-returns-4
 returns-4 c = if-field (c .before .before .before .before .before .args .texts) (c .before .before .before .before .before .args .kind) (c .before .before .before .before .before .args .bodies .now) (c .before .before .before .before .before .pre .1) (c .if4 .taken)
-
-size-requires : tie.Need-size-requires
-size-requires c κs = search needs
-
-shared-slice-read-wide-5 : tie.Need-shared-slice-read-wide-5
-shared-slice-read-wide-5 c = search needs
-
-wide-requires-5 : tie.Need-wide-requires-5
-wide-requires-5 c κs = search needs
 
 returns-5 : tie.Need-returns-5
 returns-5 c = rw (c .wide5 .ensures .0) (text-field (c .before .before .before .before .before .before .before .before .before .args .texts) (c .before .before .before .before .before .before .before .before .before .args .kind) (c .before .before .before .before .before .before .before .before .before .args .bodies .now) (c .before .before .before .before .before .before .before .before .before .pre .1) (c .before .before .before .before .before .before .before .before .before .pre .0) (c .before .before .before .before .before .before .before .if1 .left) (c .before .before .before .before .before .before .if2 .left) (c .before .before .before .before .before .if3 .left) (c .before .before .before .before .if4 .left) (sym (c .before .before .before .size .ensures .0) ∙ c .before .before .if5 .taken))
@@ -64,24 +37,8 @@ returns-6 c = other-field (c .before .before .before .before .before .before .be
 
 pub field-ok-spec : {M : Type 1} → statement M
 field-ok-spec =
-    tie.close
-    (tie.spec
-    shared-slice-read-wide
-    wide-requires
-    within-requires
-    returns
-    shared-slice-read-wide-2
-    wide-requires-2
-    within-requires-2
-    returns-2
-    shared-slice-read-wide-3
-    wide-requires-3
-    shared-slice-read-wide-4
-    wide-requires-4
-    returns-3
-    returns-4
-    size-requires
-    shared-slice-read-wide-5
-    wide-requires-5
-    returns-5
-    returns-6)
+    tie.close (tie.spec shared-slice-read-wide (λ c κs. search needs) (λ c κs. search needs) returns
+    shared-slice-read-wide-2 (λ c κs. search needs) (λ c κs. search needs) returns-2
+    shared-slice-read-wide-3 (λ c κs. search needs) shared-slice-read-wide-4
+    (λ c κs. search needs) returns-3 returns-4 (λ c κs. search needs) (λ c. search needs)
+    (λ c κs. search needs) returns-5 returns-6)

@@ -18,39 +18,15 @@ Inv-loop texts entries bodies ok₀ at₀ i₀ ok at i = (at ≤ length bodies) 
 abbrev μ-loop : tie.MeasureT-loop
 μ-loop texts entries bodies ok₀ at₀ i₀ ok at i = length entries - i
 
-loop-holds : tie.Need-loop-holds Inv-loop μ-loop
-loop-holds c = (omega arith, c .before .before .pre .1, refl)
-
-shared-slice-read-kind : tie.Need-shared-slice-read-kind Inv-loop μ-loop
-shared-slice-read-kind c = omega arith
-
-sub-field-ok : tie.Need-sub-field-ok Inv-loop μ-loop
-sub-field-ok c = omega arith
-
-part-field-ok-start : tie.Need-part-field-ok-start Inv-loop μ-loop
-part-field-ok-start c = omega arith
-
-part-field-ok-end : tie.Need-part-field-ok-end Inv-loop μ-loop
-part-field-ok-end c = omega arith
-
 field-ok-requires : tie.Need-field-ok-requires Inv-loop μ-loop
 field-ok-requires c κs =
     let p = at-place (c .before .before .before .before .before .before .args .entries .now) (c .before .before .before .before .before .before .args .bodies .now) (c .before .before .before .loop .i) (c .before .before .before .loop .at) (c .before .before .before .loop .inv .1) (omega arith) (omega arith) in
     (p .known, rw (to-end (c .before .before .before .loop .at)) (p .fits))
 
-size-requires : tie.Need-size-requires Inv-loop μ-loop
-size-requires c κs = search needs
-
 add-at : tie.Need-add-at Inv-loop μ-loop
 add-at c =
     let p = at-place (c .before .before .before .before .before .before .before .before .args .entries .now) (c .before .before .before .before .before .before .before .before .args .bodies .now) (c .before .before .before .before .before .loop .i) (c .before .before .before .before .before .loop .at) (c .before .before .before .before .before .loop .inv .1) (omega arith) (omega arith) in
     omega (arith, p .inside, c .size .ensures .0)
-
-add-i : tie.Need-add-i Inv-loop μ-loop
-add-i c = omega arith
-
-loop-less : tie.Need-loop-less Inv-loop μ-loop
-loop-less c = omega arith
 
 loop-again : tie.Need-loop-again Inv-loop μ-loop
 loop-again c =
@@ -65,19 +41,7 @@ returns c = done (c .before .loop .ok) (c .before .loop .inv .2) (ap (all (nodeO
 
 pub fields-ok-spec : {M : Type 1} → statement M
 fields-ok-spec =
-    tie.close
-    (tie.spec
-    Inv-loop
-    μ-loop
-    loop-holds
-    shared-slice-read-kind
-    sub-field-ok
-    part-field-ok-start
-    part-field-ok-end
-    field-ok-requires
-    size-requires
-    add-at
-    add-i
-    loop-less
-    loop-again
-    returns)
+    tie.close (tie.spec Inv-loop μ-loop (λ c. (omega arith, c .before .before .pre .1, refl))
+    (λ c. omega arith) (λ c. omega arith) (λ c. omega arith) (λ c. omega arith)
+    field-ok-requires (λ c κs. search needs) add-at (λ c. omega arith) (λ c. omega arith)
+    loop-again returns)

@@ -17,24 +17,6 @@ Inv-loop entries total₀ i₀ total i = (i ≤ 2049) × (total ≤ 8 * i) × (s
 abbrev μ-loop : tie.MeasureT-loop
 μ-loop entries total₀ i₀ total i = length entries - i
 
-loop-holds : tie.Need-loop-holds Inv-loop μ-loop
-loop-holds c = (omega arith, omega arith, omega arith)
-
-shared-slice-read-size : tie.Need-shared-slice-read-size Inv-loop μ-loop
-shared-slice-read-size c = omega arith
-
-size-requires : tie.Need-size-requires Inv-loop μ-loop
-size-requires c κs = search needs
-
-add-total : tie.Need-add-total Inv-loop μ-loop
-add-total c = omega arith
-
-add-i : tie.Need-add-i Inv-loop μ-loop
-add-i c = omega arith
-
-loop-less : tie.Need-loop-less Inv-loop μ-loop
-loop-less c = omega arith
-
 loop-again : tie.Need-loop-again Inv-loop μ-loop
 loop-again c = (omega arith, omega arith, omega (arith, c .size .ensures .0, sizes-next (c .before .before .before .before .before .args .entries .now) (c .before .before .before .loop .i) (omega arith)))
 
@@ -43,15 +25,6 @@ returns c = (omega (arith, sizes-end (c .before .before .before .args .entries .
 
 pub node-bytes-spec : {M : Type 1} → statement M
 node-bytes-spec =
-    tie.close
-    (tie.spec
-    Inv-loop
-    μ-loop
-    loop-holds
-    shared-slice-read-size
-    size-requires
-    add-total
-    add-i
-    loop-less
-    loop-again
-    returns)
+    tie.close (tie.spec Inv-loop μ-loop (λ c. (omega arith, omega arith, omega arith))
+    (λ c. omega arith) (λ c κs. search needs) (λ c. omega arith) (λ c. omega arith)
+    (λ c. omega arith) loop-again returns)

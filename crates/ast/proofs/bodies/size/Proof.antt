@@ -8,14 +8,8 @@ use Rattle.ast.proofs.bodies.size.Tie as tie
 returns : tie.Need-returns
 returns c = (sym (unknown-size (c .before .args .kind) (c .if1 .taken)), omega arith)
 
-array-read-result : tie.Need-array-read-result
-array-read-result c = search needs
-
 cast-result : tie.Need-cast-result
 cast-result c = omega (arith, sized (c .before .args .kind) (omega arith) .1)
 
-returns-2 : tie.Need-returns-2
-returns-2 c = sized (c .before .args .kind) (omega arith)
-
 pub size-spec : {M : Type 1} → statement M
-size-spec = tie.close (tie.spec returns array-read-result cast-result returns-2)
+size-spec = tie.close (tie.spec returns (λ c. search needs) cast-result (λ c. sized (c .before .args .kind) (omega arith)))

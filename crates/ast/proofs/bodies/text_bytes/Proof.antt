@@ -13,23 +13,11 @@ Inv-loop lengths total₀ i₀ total i = (i ≤ length lengths) × (total ≤ 25
 abbrev μ-loop : tie.MeasureT-loop
 μ-loop lengths total₀ i₀ total i = length lengths - i
 
-loop-holds : tie.Need-loop-holds Inv-loop μ-loop
-loop-holds c = (omega arith, omega arith, omega arith)
-
-shared-slice-read-total : tie.Need-shared-slice-read-total Inv-loop μ-loop
-shared-slice-read-total c = omega arith
-
 cast-total : tie.Need-cast-total Inv-loop μ-loop
 cast-total c = omega (arith, c .shared-slice-known .given (c .before .before .loop .i))
 
 add-total : tie.Need-add-total Inv-loop μ-loop
 add-total c = omega (arith, c .shared-slice-known .given (c .before .before .loop .i))
-
-add-i : tie.Need-add-i Inv-loop μ-loop
-add-i c = omega arith
-
-loop-less : tie.Need-loop-less Inv-loop μ-loop
-loop-less c = omega arith
 
 loop-again : tie.Need-loop-again Inv-loop μ-loop
 loop-again c = (omega arith, omega (arith, c .shared-slice-known .given (c .before .before .loop .i)), omega (arith, sum-next (c .before .before .before .args .lengths .now) (c .before .before .loop .i) (omega arith)))
@@ -39,15 +27,6 @@ returns c = (omega (arith, sum-end (c .before .before .args .lengths .now) (c .b
 
 pub text-bytes-spec : {M : Type 1} → statement M
 text-bytes-spec =
-    tie.close
-    (tie.spec
-    Inv-loop
-    μ-loop
-    loop-holds
-    shared-slice-read-total
-    cast-total
-    add-total
-    add-i
-    loop-less
-    loop-again
+    tie.close (tie.spec Inv-loop μ-loop (λ c. (omega arith, omega arith, omega arith))
+    (λ c. omega arith) cast-total add-total (λ c. omega arith) (λ c. omega arith) loop-again
     returns)

@@ -15,18 +15,6 @@ Inv-loop lengths ok₀ i₀ ok i = (i ≤ length lengths) × (all (λ (n : ℕ).
 abbrev μ-loop : tie.MeasureT-loop
 μ-loop lengths ok₀ i₀ ok i = length lengths - i
 
-loop-holds : tie.Need-loop-holds Inv-loop μ-loop
-loop-holds c = (omega arith, refl)
-
-shared-slice-read-ok : tie.Need-shared-slice-read-ok Inv-loop μ-loop
-shared-slice-read-ok c = omega arith
-
-add-i : tie.Need-add-i Inv-loop μ-loop
-add-i c = omega arith
-
-loop-less : tie.Need-loop-less Inv-loop μ-loop
-loop-less c = omega arith
-
 loop-again : tie.Need-loop-again Inv-loop μ-loop
 loop-again c = (omega arith, turn (c .before .before .loop .ok) _ _ (c .before .before .loop .inv .1) (all-next (λ (n : ℕ). leb n 40) (c .before .before .before .args .lengths .now) (c .before .before .loop .i) (omega arith)))
 
@@ -35,5 +23,5 @@ returns c = done (c .before .loop .ok) (c .before .loop .inv .1) (all-end (λ (n
 
 pub lengths-ok-spec : {M : Type 1} → statement M
 lengths-ok-spec =
-    tie.close
-    (tie.spec Inv-loop μ-loop loop-holds shared-slice-read-ok add-i loop-less loop-again returns)
+    tie.close (tie.spec Inv-loop μ-loop (λ c. (omega arith, refl)) (λ c. omega arith)
+    (λ c. omega arith) (λ c. omega arith) loop-again returns)

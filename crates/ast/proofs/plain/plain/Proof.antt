@@ -25,9 +25,6 @@ module _ (f : List ℕ) {count nodes : ℕ} (ec : count ≡ textCount f) (en : n
   entries-few : Accepted f → length (take ((3 + count + 2 * nodes) - (3 + count)) (drop (3 + count) f)) ≤ 2048
   entries-few a = omega (arith, entries-size f ec en (entries-end a), en, a .fewNodes)
 
-read-requires : tie.Need-read-requires
-read-requires c κs = search needs
-
 returns : tie.Need-returns
 returns c = plain-refused (c .before .before .before .args .file .now) (λ e. c .if1 .taken (c .before .read .ensures ∙ e))
 
@@ -35,24 +32,9 @@ text-count-requires : tie.Need-text-count-requires
 text-count-requires c κs =
     accepted (c .before .before .before .args .file .now) (sym (c .before .read .ensures) ∙ c .if1 .left) .long
 
-add-first : tie.Need-add-first
-add-first c = search needs
-
 node-count-requires : tie.Need-node-count-requires
 node-count-requires c κs =
     accepted (c .before .before .before .before .args .file .now) (sym (c .before .before .read .ensures) ∙ c .before .if1 .left) .long
-
-mul-size : tie.Need-mul-size
-mul-size c = search needs
-
-add-size : tie.Need-add-size
-add-size c = search needs
-
-sub-scan : tie.Need-sub-scan
-sub-scan c = search needs
-
-part-scan-start : tie.Need-part-scan-start
-part-scan-start c = search needs
 
 part-scan-end : tie.Need-part-scan-end
 part-scan-end c = entries-end (c .before .before .before .before .before .args .file .now) (c .before .text-count .ensures .0) (c .node-count .ensures .0) (accepted (c .before .before .before .before .before .args .file .now) (sym (c .before .before .before .read .ensures) ∙ c .before .before .if1 .left))
@@ -70,17 +52,6 @@ returns-2 c =
 
 pub plain-spec : {M : Type 1} → statement M
 plain-spec =
-    tie.close
-    (tie.spec
-    read-requires
-    returns
-    text-count-requires
-    add-first
-    node-count-requires
-    mul-size
-    add-size
-    sub-scan
-    part-scan-start
-    part-scan-end
-    scan-requires
-    returns-2)
+    tie.close (tie.spec (λ c κs. search needs) returns text-count-requires (λ c. search needs)
+    node-count-requires (λ c. search needs) (λ c. search needs) (λ c. search needs)
+    (λ c. search needs) part-scan-end scan-requires returns-2)

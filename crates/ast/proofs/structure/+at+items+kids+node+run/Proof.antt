@@ -126,32 +126,17 @@ node-claims t = (
   kids.Post,
 )
 
-at-enum-known-p : (t : ℕ) → at-lts.Need-enum-known-p (at-claims t) (at-at t) at.Post
-at-enum-known-p t c = search needs
-
-at-enum-told : (t : ℕ) → at-lts.Need-enum-told (at-claims t) (at-at t) at.Post
-at-enum-told t c = search needs
-
-at-returns : (t : ℕ) → at-lts.Need-returns (at-claims t) (at-at t) at.Post
-at-returns t c = λ x a. at-stop _ a (c .enum-told .given .1)
-
 at-sub-node : (t : ℕ) → at-lts.Need-sub-node (at-claims t) (at-at t) at.Post
 at-sub-node t c = here (c .before .before .before .before .before .pre .1 .1) _ _ (c .before .p .given .1) .inC
 
 at-part-node-start : (t : ℕ) → at-lts.Need-part-node-start (at-claims t) (at-at t) at.Post
 at-part-node-start t c = here (c .before .before .before .before .before .pre .1 .1) _ _ (c .before .p .given .1) .inC
 
-at-part-node-end : (t : ℕ) → at-lts.Need-part-node-end (at-claims t) (at-at t) at.Post
-at-part-node-end t c = search needs
-
 at-sub-node-2 : (t : ℕ) → at-lts.Need-sub-node-2 (at-claims t) (at-at t) at.Post
 at-sub-node-2 t c = here (c .before .before .before .before .before .before .pre .1 .1) _ _ (c .before .before .p .given .1) .inB
 
 at-part-node-start-2 : (t : ℕ) → at-lts.Need-part-node-start-2 (at-claims t) (at-at t) at.Post
 at-part-node-start-2 t c = here (c .before .before .before .before .before .before .pre .1 .1) _ _ (c .before .before .p .given .1) .inB
-
-at-part-node-end-2 : (t : ℕ) → at-lts.Need-part-node-end-2 (at-claims t) (at-at t) at.Post
-at-part-node-end-2 t c = search needs
 
 at-node-requires : (t : ℕ) → at-lts.Need-node-requires (at-claims t) (at-at t) at.Post
 at-node-requires t c κs = (omega (arith, c .before .before .before .before .before .before .before .pre .0), simp to-end (here (c .before .before .before .before .before .before .before .pre .1 .1) _ _ (c .before .before .before .p .given .1) .fit))
@@ -172,9 +157,6 @@ items-Inv-loop n contents bodies depth q₀ keys₀ more₀ q keys more = (x : R
 abbrev items-μ-loop : items-lts.MeasureT-loop
 items-μ-loop n contents bodies depth q₀ keys₀ more₀ q keys more = more
 
-items-loop-holds : (t : ℕ) → items-lts.Need-loop-holds (items-claims t) (items-at t) items.Post items-Inv-loop items-μ-loop
-items-loop-holds t c = λ x a. start _ a
-
 items-key-at-requires : (t : ℕ) → items-lts.Need-key-at-requires (items-claims t) (items-at t) items.Post items-Inv-loop items-μ-loop
 items-key-at-requires t c κs =
     let r = c .before .loop .inv (c .before .before .before .before .pre .1 .0) (c .before .before .before .before .pre .1 .1) in
@@ -184,18 +166,6 @@ items-at-requires : (t : ℕ) → items-lts.Need-at-requires (items-claims t) (i
 items-at-requires t c κs =
     let r = c .before .before .loop .inv (c .before .before .before .before .before .pre .1 .0) (c .before .before .before .before .before .pre .1 .1) in
     (omega (arith, c .before .before .before .before .before .pre .0), (r .so, r .agrees))
-
-items-unless-key-requires : (t : ℕ) → items-lts.Need-unless-key-requires (items-claims t) (items-at t) items.Post items-Inv-loop items-μ-loop
-items-unless-key-requires t c κs = c .before .key-at .ensures .0
-
-items-with-key-requires : (t : ℕ) → items-lts.Need-with-key-requires (items-claims t) (items-at t) items.Post items-Inv-loop items-μ-loop
-items-with-key-requires t c κs = c .before .before .key-at .ensures .0
-
-items-sub-more : (t : ℕ) → items-lts.Need-sub-more (items-claims t) (items-at t) items.Post items-Inv-loop items-μ-loop
-items-sub-more t c = omega arith
-
-items-loop-less : (t : ℕ) → items-lts.Need-loop-less (items-claims t) (items-at t) items.Post items-Inv-loop items-μ-loop
-items-loop-less t c = omega arith
 
 items-loop-again : (t : ℕ) → items-lts.Need-loop-again (items-claims t) (items-at t) items.Post items-Inv-loop items-μ-loop
 items-loop-again t c = λ x a. rw (c .with-key .ensures) (keyed-turn _ (c .before .before .before .before .before .loop .keys) (c .before .before .before .before .before .loop .more) (c .before .before .before .key-at .result) (omega arith) (c .before .before .before .before .before .loop .inv x a) (c .before .before .before .key-at .ensures .1) (c .before .before .at .ensures) (c .before .unless-key .ensures))
@@ -222,23 +192,11 @@ kids-run-requires-4 t c κs = (omega (arith, c .before .before .before .before .
 kids-returns : (t : ℕ) → kids-lts.Need-returns (run-below t, run.Post) (kids-at t) kids.Post
 kids-returns t c = λ x a. c .run4 .ensures _ (c .before .run3 .ensures _ (c .before .before .run2 .ensures _ (c .before .before .before .run .ensures x a)))
 
-node-returns : (t : ℕ) → node-lts.Need-returns (node-claims t) (node-at t) node.Post
-node-returns t c = let e = c .if1 .taken in rw e refuses
-
 node-returns-2 : (t : ℕ) → node-lts.Need-returns-2 (node-claims t) (node-at t) node.Post
 node-returns-2 t c = let a = c .before .before .before .before .args in rw (no-node (a .depth) (a .place) (a .loops) (a .inside) (a .contents .now) (a .bodies .now) (c .if2 .taken)) refuses
 
-node-shared-slice-read-kind : (t : ℕ) → node-lts.Need-shared-slice-read-kind (node-claims t) (node-at t) node.Post
-node-shared-slice-read-kind t c = omega arith
-
 node-shared-slice-read-wide : (t : ℕ) → node-lts.Need-shared-slice-read-wide (node-claims t) (node-at t) node.Post
 node-shared-slice-read-wide t c = let g = first (c .before .before .before .before .before .before .pre .1 .room) (omega arith) in omega (arith, g .two)
-
-node-wide-requires : (t : ℕ) → node-lts.Need-wide-requires (node-claims t) (node-at t) node.Post
-node-wide-requires t c κs = search needs
-
-node-wide-requires-2 : (t : ℕ) → node-lts.Need-wide-requires-2 (node-claims t) (node-at t) node.Post
-node-wide-requires-2 t c κs = search needs
 
 node-may-stand-requires : (t : ℕ) → node-lts.Need-may-stand-requires (node-claims t) (node-at t) node.Post
 node-may-stand-requires t c κs = let g = first (c .before .before .before .before .before .before .before .before .pre .1 .room) (omega arith) in omega (arith, g .known, c .wide2 .ensures .0)
@@ -250,20 +208,8 @@ node-returns-3 t c =
     let g = first (fit .room) (omega arith) in
     rw (not-there (a .depth) (a .place) (a .loops) (a .inside) (c .before .before .before .before .before .before .before .if1 .left) fit g (rw (← c .before .before .wide2 .ensures .0) (sym (c .before .may-stand .ensures) ∙ not-true (c .before .may-stand .result) (c .if3 .taken)))) refuses
 
-node-first-byte-requires : (t : ℕ) → node-lts.Need-first-byte-requires (node-claims t) (node-at t) node.Post
-node-first-byte-requires t c κs = search needs
-
 node-plan-of-requires : (t : ℕ) → node-lts.Need-plan-of-requires (node-claims t) (node-at t) node.Post
 node-plan-of-requires t c κs = let g = first (c .before .before .before .before .before .before .before .before .before .before .before .pre .1 .room) (omega arith) in (g .least, g .known, c .first-byte .ensures .1)
-
-node-size-requires : (t : ℕ) → node-lts.Need-size-requires (node-claims t) (node-at t) node.Post
-node-size-requires t c κs = search needs
-
-node-begin-requires : (t : ℕ) → node-lts.Need-begin-requires (node-claims t) (node-at t) node.Post
-node-begin-requires t c κs = search needs
-
-node-sub-items : (t : ℕ) → node-lts.Need-sub-items (node-claims t) (node-at t) node.Post
-node-sub-items t c = omega arith
 
 node-items-requires : (t : ℕ) → node-lts.Need-items-requires (node-claims t) (node-at t) node.Post
 node-items-requires t c κs =
@@ -282,9 +228,6 @@ node-returns-4 t c =
     let there : stands (a .place) (getD (a .contents .now) 0 0) ≡ true = rw (← c .before .before .before .before .before .before .before .before .wide2 .ensures .0) (sym (c .before .before .before .before .before .before .before .may-stand .ensures) ∙ not-false (c .before .before .before .before .before .before .before .may-stand .result) (c .before .before .before .before .before .before .if3 .left)) in
     let ep = rw (c .before .before .before .before .before .before .before .before .before .wide .ensures .0, c .before .before .before .before .before .first-byte .ensures .0) at (c .before .before .before .before .plan-of .ensures) in
     table-node (a .depth) (a .place) (a .loops) (a .inside) (c .before .before .before .before .before .before .before .before .before .before .before .before .before .if1 .left) fit g there ep (c .before .before .before .size .ensures .0) (c .before .before .begin .ensures) (c .before .if4 .taken) (c .before .before .before .before .before .before .before .before .before .wide .ensures .0) (c .items .ensures)
-
-node-sub-kids : (t : ℕ) → node-lts.Need-sub-kids (node-claims t) (node-at t) node.Post
-node-sub-kids t c = omega arith
 
 node-kids-requires : (t : ℕ) → node-lts.Need-kids-requires (node-claims t) (node-at t) node.Post
 node-kids-requires t c κs =
@@ -310,19 +253,10 @@ run-Inv-loop place n contents bodies depth loops inside q₀ more₀ q more = (x
 abbrev run-μ-loop : run-lts.MeasureT-loop
 run-μ-loop place n contents bodies depth loops inside q₀ more₀ q more = more
 
-run-loop-holds : (t : ℕ) → run-lts.Need-loop-holds (at-below t, at.Post) (run-at t) run.Post run-Inv-loop run-μ-loop
-run-loop-holds t c = λ x a. start _ a
-
 run-at-requires : (t : ℕ) → run-lts.Need-at-requires (at-below t, at.Post) (run-at t) run.Post run-Inv-loop run-μ-loop
 run-at-requires t c κs =
     let r = c .before .loop .inv (c .before .before .before .before .pre .1 .0) (c .before .before .before .before .pre .1 .1) in
     (omega (arith, c .before .before .before .before .pre .0), (r .so, r .agrees))
-
-run-sub-more : (t : ℕ) → run-lts.Need-sub-more (at-below t, at.Post) (run-at t) run.Post run-Inv-loop run-μ-loop
-run-sub-more t c = omega arith
-
-run-loop-less : (t : ℕ) → run-lts.Need-loop-less (at-below t, at.Post) (run-at t) run.Post run-Inv-loop run-μ-loop
-run-loop-less t c = omega arith
 
 run-loop-again : (t : ℕ) → run-lts.Need-loop-again (at-below t, at.Post) (run-at t) run.Post run-Inv-loop run-μ-loop
 run-loop-again t c = λ x a. run-turn _ (c .before .before .loop .more) (omega arith) (c .before .before .loop .inv x a) (c .at .ensures)
@@ -331,74 +265,26 @@ run-returns : (t : ℕ) → run-lts.Need-returns (at-below t, at.Post) (run-at t
 run-returns t c = λ x a. run-end _ (c .before .loop .more) (omega arith) (c .before .loop .inv x a)
 
 pub +at+items+kids+node+run-spec : {M : Type 1} → statement M
-+at+items+kids+node+run-spec = close μ-at μ-items μ-kids μ-node μ-run (λ t. at-lts.spec (at-claims t)
-    (at-at t)
-    at.Post
-    (at-enum-known-p t)
-    (at-enum-told t)
-    (at-returns t)
-    (at-sub-node t)
-    (at-part-node-start t)
-    (at-part-node-end t)
-    (at-sub-node-2 t)
-    (at-part-node-start-2 t)
-    (at-part-node-end-2 t)
-    (at-node-requires t)
-    (at-shift-requires t)
-    (at-returns-2 t))
-    (λ t. items-lts.spec (items-claims t)
-    (items-at t)
-    items.Post
-    items-Inv-loop
-    items-μ-loop
-    (items-loop-holds t)
-    (items-key-at-requires t)
-    (items-at-requires t)
-    (items-unless-key-requires t)
-    (items-with-key-requires t)
-    (items-sub-more t)
-    (items-loop-less t)
-    (items-loop-again t)
-    (items-returns t))
-    (λ t. kids-lts.spec
-    (run-below t, run.Post)
-    (kids-at t)
-    kids.Post
-    (kids-run-requires t)
-    (kids-run-requires-2 t)
-    (kids-run-requires-3 t)
-    (kids-run-requires-4 t)
++at+items+kids+node+run-spec =
+    close μ-at μ-items μ-kids μ-node μ-run
+    (λ t. at-lts.spec (at-claims t) (at-at t) at.Post (λ c. search needs) (λ c. search needs)
+    (λ c. λ x a. at-stop _ a (c .enum-told .given .1)) (at-sub-node t)
+    (at-part-node-start t) (λ c. search needs) (at-sub-node-2 t) (at-part-node-start-2 t)
+    (λ c. search needs) (at-node-requires t) (at-shift-requires t) (at-returns-2 t))
+    (λ t. items-lts.spec (items-claims t) (items-at t) items.Post items-Inv-loop items-μ-loop
+    (λ c. λ x a. start _ a) (items-key-at-requires t) (items-at-requires t)
+    (λ c κs. c .before .key-at .ensures .0) (λ c κs. c .before .before .key-at .ensures .0)
+    (λ c. omega arith) (λ c. omega arith) (items-loop-again t) (items-returns t))
+    (λ t. kids-lts.spec (run-below t, run.Post) (kids-at t) kids.Post (kids-run-requires t)
+    (kids-run-requires-2 t) (kids-run-requires-3 t) (kids-run-requires-4 t)
     (kids-returns t))
-    (λ t. node-lts.spec (node-claims t)
-    (node-at t)
-    node.Post
-    (node-returns t)
-    (node-returns-2 t)
-    (node-shared-slice-read-kind t)
-    (node-shared-slice-read-wide t)
-    (node-wide-requires t)
-    (node-wide-requires-2 t)
-    (node-may-stand-requires t)
-    (node-returns-3 t)
-    (node-first-byte-requires t)
-    (node-plan-of-requires t)
-    (node-size-requires t)
-    (node-begin-requires t)
-    (node-sub-items t)
-    (node-items-requires t)
-    (node-returns-4 t)
-    (node-sub-kids t)
-    (node-kids-requires t)
-    (node-returns-5 t))
-    λ t. run-lts.spec
-    (at-below t, at.Post)
-    (run-at t)
-    run.Post
-    run-Inv-loop
-    run-μ-loop
-    (run-loop-holds t)
-    (run-at-requires t)
-    (run-sub-more t)
-    (run-loop-less t)
-    (run-loop-again t)
-    (run-returns t)
+    (λ t. node-lts.spec (node-claims t) (node-at t) node.Post
+    (λ c. let e = c .if1 .taken in rw e refuses) (node-returns-2 t) (λ c. omega arith)
+    (node-shared-slice-read-wide t) (λ c κs. search needs) (λ c κs. search needs)
+    (node-may-stand-requires t) (node-returns-3 t) (λ c κs. search needs)
+    (node-plan-of-requires t) (λ c κs. search needs) (λ c κs. search needs)
+    (λ c. omega arith) (node-items-requires t) (node-returns-4 t) (λ c. omega arith)
+    (node-kids-requires t) (node-returns-5 t))
+    (λ t. run-lts.spec (at-below t, at.Post) (run-at t) run.Post run-Inv-loop run-μ-loop
+    (λ c. λ x a. start _ a) (run-at-requires t) (λ c. omega arith) (λ c. omega arith)
+    (run-loop-again t) (run-returns t))

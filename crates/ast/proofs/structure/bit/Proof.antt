@@ -4,11 +4,5 @@ use borrow.Author.Needs.{needs}
 use Rattle.ast.proofs.structure.bit.Statement.{statement}
 use Rattle.ast.proofs.structure.bit.Tie as tie
 
-shl-result : tie.Need-shl-result
-shl-result c = search needs
-
-returns : tie.Need-returns
-returns c = rw one-mul (mod-eq-of-lt (pow-lt (c .pre)))
-
 pub bit-spec : {M : Type 1} → statement M
-bit-spec = tie.close (tie.spec shl-result returns)
+bit-spec = tie.close (tie.spec (λ c. search needs) (λ c. rw one-mul (mod-eq-of-lt (pow-lt (c .pre)))))

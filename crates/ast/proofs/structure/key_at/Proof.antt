@@ -4,20 +4,11 @@ use borrow.Author.Needs.{needs}
 use Rattle.ast.proofs.structure.key_at.Statement.{statement}
 use Rattle.ast.proofs.structure.key_at.Tie as tie
 
-enum-known-p : tie.Need-enum-known-p
-enum-known-p c = search needs
-
 enum-told : tie.Need-enum-told
 enum-told c = search needs
 
-returns : tie.Need-returns
-returns c = (omega arith, λ ns a. never-left a (c .enum-told .given .1))
-
 returns-2 : tie.Need-returns-2
 returns-2 c = (omega arith, λ ns a. key-none (here a _ _ (c .before .before .p .given .1)) (c .if1 .taken))
-
-shared-slice-read-kind : tie.Need-shared-slice-read-kind
-shared-slice-read-kind c = search needs
 
 returns-3 : tie.Need-returns-3
 returns-3 c = (omega arith, λ ns a. key-other (here a _ _ (c .before .before .before .before .p .given .1)) (omega arith) (c .if2 .taken))
@@ -25,22 +16,11 @@ returns-3 c = (omega arith, λ ns a. key-other (here a _ _ (c .before .before .b
 shared-slice-read-wide : tie.Need-shared-slice-read-wide
 shared-slice-read-wide c = key-in (here (c .before .before .before .before .before .before .before .before .before .pre .1) _ _ (c .before .before .before .before .before .p .given .1)) (omega arith) (c .before .if2 .left)
 
-wide-requires : tie.Need-wide-requires
-wide-requires c κs = search needs
-
 returns-4 : tie.Need-returns-4
 returns-4 c = rw (c .wide .ensures .0) (key-small (here (c .before .before .before .before .before .before .before .before .before .before .pre .1) _ _ (c .before .before .before .before .before .before .p .given .1)) (omega arith) (c .before .before .if2 .left), λ ns a. key-item (here a _ _ (c .before .before .before .before .before .before .p .given .1)) (omega arith) (c .before .before .if2 .left))
 
 pub key-at-spec : {M : Type 1} → statement M
 key-at-spec =
-    tie.close
-    (tie.spec
-    enum-known-p
-    enum-told
-    returns
-    returns-2
-    shared-slice-read-kind
-    returns-3
-    shared-slice-read-wide
-    wide-requires
-    returns-4)
+    tie.close (tie.spec (λ c. search needs) enum-told
+    (λ c. (omega arith, λ ns a. never-left a (c .enum-told .given .1))) returns-2
+    (λ c. search needs) returns-3 shared-slice-read-wide (λ c κs. search needs) returns-4)

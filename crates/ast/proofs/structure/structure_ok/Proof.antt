@@ -8,12 +8,6 @@ use borrow.Author.Needs.{needs}
 use Rattle.ast.proofs.structure.structure_ok.Statement.{statement}
 use Rattle.ast.proofs.structure.structure_ok.Tie as tie
 
-node-requires : tie.Need-node-requires
-node-requires c κs = search needs
-
-enum-known-u : tie.Need-enum-known-u
-enum-known-u c = search needs
-
 enum-told : tie.Need-enum-told
 enum-told c = search needs
 
@@ -24,4 +18,4 @@ returns-2 : tie.Need-returns-2
 returns-2 c = let a = c .before .before .before .before .before .before .args in all-nodes (here (c .before .before .before .node .ensures) _ _ (c .before .u .given .1)) ∙ sym (parse-pass (nodesFrom (a .entries .now) (a .bodies .now)))
 
 pub structure-ok-spec : {M : Type 1} → statement M
-structure-ok-spec = tie.close (tie.spec node-requires enum-known-u enum-told returns returns-2)
+structure-ok-spec = tie.close (tie.spec (λ c κs. search needs) (λ c. search needs) enum-told returns returns-2)

@@ -22,12 +22,6 @@ abbrev μ-loop : tie.MeasureT-loop
 returns : tie.Need-returns Inv-loop μ-loop
 returns c = sym (ap ascending (cut-none (c .before .before .before .args .lengths .now) (c .before .before .before .args .texts .now) (omega arith)))
 
-shared-slice-read-at : tie.Need-shared-slice-read-at Inv-loop μ-loop
-shared-slice-read-at c = omega arith
-
-cast-at : tie.Need-cast-at Inv-loop μ-loop
-cast-at c = omega (arith, c .shared-slice-known3 .given 0)
-
 loop-holds : tie.Need-loop-holds Inv-loop μ-loop
 loop-holds c =
     let a = c .before .before .before .before .args in (
@@ -36,9 +30,6 @@ loop-holds c =
       omega (arith, sum-first (a .lengths .now) (omega arith)),
       rw sub-zero (ap ascending (cut-first (a .lengths .now) (a .texts .now) (omega arith))),
     )
-
-shared-slice-read-end : tie.Need-shared-slice-read-end Inv-loop μ-loop
-shared-slice-read-end c = omega arith
 
 cast-end : tie.Need-cast-end Inv-loop μ-loop
 cast-end c = omega (arith, c .shared-slice-known4 .given (c .before .before .loop .i))
@@ -64,15 +55,6 @@ part-precedes-start-2 c = omega (arith, sum-next (c .before .before .before .bef
 part-precedes-end-2 : tie.Need-part-precedes-end-2 Inv-loop μ-loop
 part-precedes-end-2 c = omega (arith, sum-next (c .before .before .before .before .before .before .before .before .args .lengths .now) (c .before .before .before .loop .i) (omega arith))
 
-precedes-requires : tie.Need-precedes-requires Inv-loop μ-loop
-precedes-requires c κs = search needs
-
-add-i : tie.Need-add-i Inv-loop μ-loop
-add-i c = omega arith
-
-loop-less : tie.Need-loop-less Inv-loop μ-loop
-loop-less c = omega arith
-
 loop-again : tie.Need-loop-again Inv-loop μ-loop
 loop-again c =
     let l = c .before .before .before .before .before .loop in
@@ -89,25 +71,8 @@ returns-2 c = done (c .before .loop .ok) (c .before .loop .inv .3) (ascending-en
 
 pub in-order-spec : {M : Type 1} → statement M
 in-order-spec =
-    tie.close
-    (tie.spec
-    Inv-loop
-    μ-loop
-    returns
-    shared-slice-read-at
-    cast-at
-    loop-holds
-    shared-slice-read-end
-    cast-end
-    add-end
-    sub-precedes
-    part-precedes-start
-    part-precedes-end
-    sub-precedes-2
-    part-precedes-start-2
-    part-precedes-end-2
-    precedes-requires
-    add-i
-    loop-less
-    loop-again
-    returns-2)
+    tie.close (tie.spec Inv-loop μ-loop returns (λ c. omega arith)
+    (λ c. omega (arith, c .shared-slice-known3 .given 0)) loop-holds (λ c. omega arith) cast-end
+    add-end sub-precedes part-precedes-start part-precedes-end sub-precedes-2
+    part-precedes-start-2 part-precedes-end-2 (λ c κs. search needs) (λ c. omega arith)
+    (λ c. omega arith) loop-again returns-2)

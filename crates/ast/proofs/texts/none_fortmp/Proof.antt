@@ -19,12 +19,6 @@ Inv-loop lengths texts ok₀ at₀ i₀ ok at i = (i ≤ length lengths) × (at 
 abbrev μ-loop : tie.MeasureT-loop
 μ-loop lengths texts ok₀ at₀ i₀ ok at i = length lengths - i
 
-loop-holds : tie.Need-loop-holds Inv-loop μ-loop
-loop-holds c = (omega arith, omega arith, refl)
-
-shared-slice-read-end : tie.Need-shared-slice-read-end Inv-loop μ-loop
-shared-slice-read-end c = omega arith
-
 cast-end : tie.Need-cast-end Inv-loop μ-loop
 cast-end c = omega (arith, c .shared-slice-known3 .given (c .before .before .loop .i))
 
@@ -39,15 +33,6 @@ part-is-fortmp-start c = omega (arith, sum-next (c .before .before .before .befo
 
 part-is-fortmp-end : tie.Need-part-is-fortmp-end Inv-loop μ-loop
 part-is-fortmp-end c = omega (arith, sum-next (c .before .before .before .before .before .args .lengths .now) (c .before .before .loop .i) (omega arith))
-
-is-fortmp-requires : tie.Need-is-fortmp-requires Inv-loop μ-loop
-is-fortmp-requires c κs = search needs
-
-add-i : tie.Need-add-i Inv-loop μ-loop
-add-i c = omega arith
-
-loop-less : tie.Need-loop-less Inv-loop μ-loop
-loop-less c = omega arith
 
 loop-again : tie.Need-loop-again Inv-loop μ-loop
 loop-again c =
@@ -64,19 +49,6 @@ returns c = done (c .before .loop .ok) (c .before .loop .inv .2) (ap (all (λ (s
 
 pub none-fortmp-spec : {M : Type 1} → statement M
 none-fortmp-spec =
-    tie.close
-    (tie.spec
-    Inv-loop
-    μ-loop
-    loop-holds
-    shared-slice-read-end
-    cast-end
-    add-end
-    sub-is-fortmp
-    part-is-fortmp-start
-    part-is-fortmp-end
-    is-fortmp-requires
-    add-i
-    loop-less
-    loop-again
-    returns)
+    tie.close (tie.spec Inv-loop μ-loop (λ c. (omega arith, omega arith, refl)) (λ c. omega arith)
+    cast-end add-end sub-is-fortmp part-is-fortmp-start part-is-fortmp-end
+    (λ c κs. search needs) (λ c. omega arith) (λ c. omega arith) loop-again returns)

@@ -12,47 +12,20 @@ use borrow.Author.Needs.{needs}
 use Rattle.execute.proofs.table.tbli.Statement.{statement}
 use Rattle.execute.proofs.table.tbli.Tie as tie
 
-slot-requires : tie.Need-slot-requires
-slot-requires c κs = search needs
-
 kind-at-requires : tie.Need-kind-at-requires
 kind-at-requires c κs = (name-formed (c .before .before .before .args .state .now) (c .before .before .before .pre .0) (c .before .before .before .args .tabname) (c .before .before .before .pre .1) (c .slot .ensures))
-
-invalid-name-requires : tie.Need-invalid-name-requires
-invalid-name-requires c κs = search needs
-
-same-length : tie.Need-same-length
-same-length c = search needs
 
 returns : tie.Need-returns
 returns c = tabled-unset (c .before .before .before .before .before .before .args .state .now) (c .before .before .before .before .before .before .pre .0) (c .before .before .before .before .before .before .args .tabname) (c .before .before .before .before .before .before .pre .1) (c .before .before .before .slot .ensures) (c .before .before .before .before .before .before .args .key) (regsOf (c .before .before .before .before .before .before .args .state .now) (c .before .before .before .before .before .before .args .src)) (c .before .before .kind-at .ensures) (c .before .if1 .taken) (ap did.Err (c .invalid-name .ensures)) refl
 
-same-length-2 : tie.Need-same-length-2
-same-length-2 c = search needs
-
 returns-2 : tie.Need-returns-2
 returns-2 c = tabled-off (c .before .before .before .before .before .before .args .state .now) (c .before .before .before .before .before .before .pre .0) (c .before .before .before .before .before .before .args .tabname) (c .before .before .before .before .before .before .pre .1) (c .before .before .before .slot .ensures) (c .before .before .before .before .before .before .args .key) (regsOf (c .before .before .before .before .before .before .args .state .now) (c .before .before .before .before .before .before .args .src)) (c .before .before .kind-at .ensures) (c .before .if1 .left) (c .if2 .taken) refl refl
-
-reg-requires : tie.Need-reg-requires
-reg-requires c κs = search needs
 
 kind-at-requires-2 : tie.Need-kind-at-requires-2
 kind-at-requires-2 c κs = (reg-formed (c .before .before .before .before .before .before .before .before .args .state .now) (c .before .before .before .before .before .before .before .before .pre .0) (c .before .before .before .before .before .before .before .before .args .src) (c .before .before .before .before .before .before .before .before .pre .3) (c .reg .ensures))
 
-empty-register-requires : tie.Need-empty-register-requires
-empty-register-requires c κs = search needs
-
-same-length-3 : tie.Need-same-length-3
-same-length-3 c = search needs
-
 returns-3 : tie.Need-returns-3
 returns-3 c = tabled-none (c .before .before .before .before .before .before .before .before .before .before .before .args .state .now) (c .before .before .before .before .before .before .before .before .before .before .before .pre .0) (c .before .before .before .before .before .before .before .before .before .before .before .args .tabname) (c .before .before .before .before .before .before .before .before .before .before .before .pre .1) (c .before .before .before .before .before .before .before .before .slot .ensures) (c .before .before .before .before .before .before .before .before .before .before .before .args .key) (regsOf (c .before .before .before .before .before .before .before .before .before .before .before .args .state .now) (c .before .before .before .before .before .before .before .before .before .before .before .args .src)) (sym (c .before .before .before .before .before .before .before .kind-at .ensures) ∙ c .before .before .before .before .before .if2 .left) refl (c .before .before .kind-at2 .ensures ∙ ap (λ (o : Option Value). kindIn (seen o)) (reg-value (c .before .before .before .before .before .before .before .before .before .before .before .args .state .now) (c .before .before .before .before .before .before .before .before .before .before .before .pre .0) (c .before .before .before .before .before .before .before .before .before .before .before .args .src) (c .before .before .before .before .before .before .before .before .before .before .before .pre .3) (c .before .before .before .reg .ensures))) (c .before .if3 .taken) (ap did.Err (c .empty-register .ensures)) refl
-
-not-single-requires : tie.Need-not-single-requires
-not-single-requires c κs = search needs
-
-same-length-4 : tie.Need-same-length-4
-same-length-4 c = search needs
 
 returns-4 : tie.Need-returns-4
 returns-4 c = tabled-multi (c .before .before .before .before .before .before .before .before .before .before .before .before .args .state .now) (c .before .before .before .before .before .before .before .before .before .before .before .before .pre .0) (c .before .before .before .before .before .before .before .before .before .before .before .before .args .tabname) (c .before .before .before .before .before .before .before .before .before .before .before .before .pre .1) (c .before .before .before .before .before .before .before .before .before .slot .ensures) (c .before .before .before .before .before .before .before .before .before .before .before .before .args .key) (regsOf (c .before .before .before .before .before .before .before .before .before .before .before .before .args .state .now) (c .before .before .before .before .before .before .before .before .before .before .before .before .args .src)) (sym (c .before .before .before .before .before .before .before .before .kind-at .ensures) ∙ c .before .before .before .before .before .before .if2 .left) refl (c .before .before .before .kind-at2 .ensures ∙ ap (λ (o : Option Value). kindIn (seen o)) (reg-value (c .before .before .before .before .before .before .before .before .before .before .before .before .args .state .now) (c .before .before .before .before .before .before .before .before .before .before .before .before .pre .0) (c .before .before .before .before .before .before .before .before .before .before .before .before .args .src) (c .before .before .before .before .before .before .before .before .before .before .before .before .pre .3) (c .before .before .before .before .reg .ensures))) (c .before .if4 .taken) (ap did.Err (c .not-single .ensures)) refl
@@ -60,31 +33,10 @@ returns-4 c = tabled-multi (c .before .before .before .before .before .before .b
 insert-requires : tie.Need-insert-requires
 insert-requires c κs = let k = (c .before .before .before .kind-at2 .ensures ∙ ap (λ (o : Option Value). kindIn (seen o)) (reg-value (c .before .before .before .before .before .before .before .before .before .before .before .before .args .state .now) (c .before .before .before .before .before .before .before .before .before .before .before .before .pre .0) (c .before .before .before .before .before .before .before .before .before .before .before .before .args .src) (c .before .before .before .before .before .before .before .before .before .before .before .before .pre .3) (c .before .before .before .before .reg .ensures))) in (c .before .before .before .before .before .before .before .before .before .before .before .before .pre .0, c .before .before .before .before .before .before .before .before .before .before .before .before .pre .1, c .before .before .before .before .before .before .before .before .before .before .before .before .pre .2, c .before .before .before .before .before .before .before .before .before .before .before .before .pre .3, c .before .before .before .before .before .before .before .before .before .before .before .before .pre .4, sym (ap (λ (o : Option Value). kindIn (seen o)) (name-value (c .before .before .before .before .before .before .before .before .before .before .before .before .args .state .now) (c .before .before .before .before .before .before .before .before .before .before .before .before .pre .0) (c .before .before .before .before .before .before .before .before .before .before .before .before .args .tabname) (c .before .before .before .before .before .before .before .before .before .before .before .before .pre .1) (c .before .before .before .before .before .before .before .before .before .slot .ensures))) ∙ (sym (c .before .before .before .before .before .before .before .before .kind-at .ensures) ∙ c .before .before .before .before .before .before .if2 .left), omega (arith, k, c .before .before .if3 .left), omega (arith, k, c .before .if4 .left))
 
-same-length-5 : tie.Need-same-length-5
-same-length-5 c = search needs
-
-returns-5 : tie.Need-returns-5
-returns-5 c = search needs
-
 pub tbli-spec : {M : Type 1} → statement M
 tbli-spec =
-    tie.close
-    (tie.spec
-    slot-requires
-    kind-at-requires
-    invalid-name-requires
-    same-length
-    returns
-    same-length-2
-    returns-2
-    reg-requires
-    kind-at-requires-2
-    empty-register-requires
-    same-length-3
-    returns-3
-    not-single-requires
-    same-length-4
-    returns-4
-    insert-requires
-    same-length-5
-    returns-5)
+    tie.close (tie.spec (λ c κs. search needs) kind-at-requires (λ c κs. search needs)
+    (λ c. search needs) returns (λ c. search needs) returns-2 (λ c κs. search needs)
+    kind-at-requires-2 (λ c κs. search needs) (λ c. search needs) returns-3
+    (λ c κs. search needs) (λ c. search needs) returns-4 insert-requires (λ c. search needs)
+    (λ c. search needs))

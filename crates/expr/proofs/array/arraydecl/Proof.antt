@@ -4,24 +4,16 @@ use Rattle.expr.specs.laws.ArrayLaws.{arr-room, arr-roomb, arr-lits, arr
 use Rattle.expr.proofs.Rights.{arr-asks, arr-front}
 use Rattle.expr.proofs.array.arraydecl.Statement.{statement}
 use Rattle.expr.proofs.array.arraydecl.Tie as tie
-use Rattle.expr.proofs.array.arraydecl.Reads as reads
-use Rattle.expr.proofs.array.arraydecl.Lts as lts
 
 shared-slice-read-n : tie.Need-shared-slice-read-n
 shared-slice-read-n c =
     let h = arr-asks (c .before .before .before .before .pre .0) (c .before .before .before .before .pre .1) in
     omega (arith, arr-room (h .2))
 
-cast-m : tie.Need-cast-m
-cast-m c = omega (arith, c .shared-slice-known3 .given 1)
-
 shared-slice-read-array-fields : tie.Need-shared-slice-read-array-fields
 shared-slice-read-array-fields c =
     let h = arr-asks (c .before .before .before .before .before .pre .0) (c .before .before .before .before .before .pre .1) in
     omega (arith, arr-roomb (h .2))
-
-array-fields-requires : tie.Need-array-fields-requires
-array-fields-requires c κs = search needs
 
 push-items-requires : tie.Need-push-items-requires
 push-items-requires c κs = (c .before .before .before .before .before .before .before .pre .0 .ready, omega (arith, c .before .before .before .shared-slice-known3 .given 1))
@@ -38,27 +30,11 @@ mul-start c = omega (arith, c .before .before .before .before .before .before .b
 add-start : tie.Need-add-start
 add-start c = omega (arith, c .before .before .before .before .before .before .before .before .before .before .before .before .shared-slice-known3 .given 1)
 
-start-requires : tie.Need-start-requires
-start-requires c κs = search needs
-
-same-length : tie.Need-same-length
-same-length c = search needs
-
 returns : tie.Need-returns
 returns c = arr-front (c .before .before .before .before .before .before .before .before .before .before .before .before .before .before .before .before .before .pre .1) (λ a ls h. arr-made h (c .before .before .before .before .before .before .before .before .before .before .before .array-fields .ensures) (c .before .before .before .before .before .before .before .before .before .push-items .ensures) (c .before .before .before .arrayitems .ensures ls (arr-lits h)) (c .start .ensures))
 
 pub arraydecl-spec : {M : Type 1} → statement M
 arraydecl-spec =
-    tie.close
-    (tie.spec
-    shared-slice-read-n
-    cast-m
-    shared-slice-read-array-fields
-    array-fields-requires
-    push-items-requires
-    arrayitems-requires
-    mul-start
-    add-start
-    start-requires
-    same-length
-    returns)
+    tie.close (tie.spec shared-slice-read-n (λ c. omega (arith, c .shared-slice-known3 .given 1))
+    shared-slice-read-array-fields (λ c κs. search needs) push-items-requires
+    arrayitems-requires mul-start add-start (λ c κs. search needs) (λ c. search needs) returns)

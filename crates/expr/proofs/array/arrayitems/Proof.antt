@@ -9,11 +9,6 @@ use Rattle.expr.specs.inner.Arrays.{Lits}
 use Rattle.expr.specs.laws.ArrayLaws.{More, more-start, more-end, next}
 use Rattle.expr.proofs.array.arrayitems.Statement.{statement}
 use Rattle.expr.proofs.array.arrayitems.Tie as tie
-use Rattle.expr.proofs.array.arrayitems.Reads as reads
-use Rattle.expr.proofs.array.arrayitems.Lts as lts
-use Rattle.expr.proofs.array.keep_item.Reads as keep-item-reads
-use Rattle.expr.proofs.array.lit_size.Reads as lit-size-reads
-use Rattle.expr.proofs.array.val_from_primary.Reads as val-from-primary-reads
 
 abbrev Inv-loop : tie.InvT-loop
 Inv-loop n contents bodies keep k out₀ at₀ i₀ out at i = (i ≤ n) × (length out ≡ length out₀) × (2 + 2 * i ≤ length contents) × ((ls : List Lit) → Lits n ls contents bodies → More ls n contents bodies keep k out₀ at i out)
@@ -64,9 +59,6 @@ keep-item-requires c κs =
     let k = c .before .before .before .loop-test .taken in
     λ e. omega (arith, p .0 .2 e, l .inv .1, k)
 
-lit-size-requires : tie.Need-lit-size-requires Inv-loop μ-loop
-lit-size-requires c κs = search needs
-
 add-at : tie.Need-add-at Inv-loop μ-loop
 add-at c =
     let l = c .before .before .before .before .before .before .before .before .loop in
@@ -101,29 +93,11 @@ loop-again c =
     let t = next (p .1 .0) (a .n) (a .contents .now) (a .bodies .now) (a .keep) (a .k) (a .out .now) (l .at) (l .i) (l .out) (λ e. omega (arith, p .0 .2 e, l .inv .1, k)) k (l .inv .2) (l .inv .3 (p .1 .0) (p .1 .1)) in
     (omega (arith, k), omega (arith, c .before .before .before .keep-item .kept, l .inv .1), omega (arith, t .entry), λ ls h. rw (c .lit-size .ensures) (next ls (a .n) (a .contents .now) (a .bodies .now) (a .keep) (a .k) (a .out .now) (l .at) (l .i) (l .out) (λ e. omega (arith, p .0 .2 e, l .inv .1, k)) k (l .inv .2) (l .inv .3 ls h) .more _ _ (c .before .before .before .before .before .val-from-primary .ensures) (c .before .before .before .keep-item .ensures)))
 
-same-length : tie.Need-same-length Inv-loop μ-loop
-same-length c = c .before .loop .inv .1
-
 returns : tie.Need-returns Inv-loop μ-loop
 returns c = λ ls h. more-end (c .loop-test .left) (c .before .loop .inv .3 ls h)
 
 pub arrayitems-spec : {M : Type 1} → statement M
 arrayitems-spec =
-    tie.close
-    (tie.spec
-    Inv-loop
-    μ-loop
-    loop-holds
-    mul-kind
-    add-kind
-    shared-slice-read-kind
-    val-from-primary-requires
-    add-keep-item
-    keep-item-requires
-    lit-size-requires
-    add-at
-    add-i
-    loop-less
-    loop-again
-    same-length
-    returns)
+    tie.close (tie.spec Inv-loop μ-loop loop-holds mul-kind add-kind shared-slice-read-kind
+    val-from-primary-requires add-keep-item keep-item-requires (λ c κs. search needs) add-at
+    add-i loop-less loop-again (λ c. c .before .loop .inv .1) returns)

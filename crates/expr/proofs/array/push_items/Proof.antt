@@ -5,21 +5,6 @@ use Rattle.expr.specs.laws.ArrayLaws.{items-refused, items-full, items-p
 use borrow.Author.Needs.{needs}
 use Rattle.expr.proofs.array.push_items.Statement.{statement}
 use Rattle.expr.proofs.array.push_items.Tie as tie
-use Rattle.expr.proofs.array.push_items.Reads as reads
-use Rattle.expr.proofs.array.push_items.Lts as lts
-use Rattle.emit.proofs.count.Reads as count-reads
-use Rattle.emit.proofs.is_full.Reads as is-full-reads
-use Rattle.emit.proofs.keep_record.Reads as keep-record-reads
-use Rattle.emit.proofs.refused.Reads as refused-reads
-
-returns : tie.Need-returns
-returns c = items-refused _ _ _ _ _ (c .if1 .taken)
-
-is-full-requires : tie.Need-is-full-requires
-is-full-requires c κs = search needs
-
-refused-requires : tie.Need-refused-requires
-refused-requires c κs = search needs
 
 returns-2 : tie.Need-returns-2
 returns-2 c = items-full _ _ _ _ _ (c .before .before .before .if1 .left) (sym (c .before .before .is-full .ensures) ∙ c .before .if2 .taken) (c .refused .ensures)
@@ -27,24 +12,11 @@ returns-2 c = items-full _ _ _ _ _ (c .before .before .before .if1 .left) (sym (
 keep-record-requires : tie.Need-keep-record-requires
 keep-record-requires c κs = let a = c .before .before .before .before .before .before .args in λ k. omega (arith, roomy (a .keep) (a .low) (a .n) (sym (c .before .before .is-full .ensures) ∙ c .before .if2 .left) .1 k .0, c .before .before .before .before .before .before .pre .0 .room)
 
-count-requires : tie.Need-count-requires
-count-requires c κs = search needs
-
-same-length : tie.Need-same-length
-same-length c = search needs
-
 returns-3 : tie.Need-returns-3
 returns-3 c = items-put _ _ _ _ _ (c .before .before .before .before .before .before .before .if1 .left) (sym (c .before .before .before .before .before .before .is-full .ensures) ∙ c .before .before .before .before .before .if2 .left) (c .before .before .before .before .before .before .before .before .before .before .pre .0) (c .count .ensures) (c .before .before .before .keep-record .ensures)
 
 pub push-items-spec : {M : Type 1} → statement M
 push-items-spec =
-    tie.close
-    (tie.spec
-    returns
-    is-full-requires
-    refused-requires
-    returns-2
-    keep-record-requires
-    count-requires
-    same-length
-    returns-3)
+    tie.close (tie.spec (λ c. items-refused _ _ _ _ _ (c .if1 .taken)) (λ c κs. search needs)
+    (λ c κs. search needs) returns-2 keep-record-requires (λ c κs. search needs)
+    (λ c. search needs) returns-3)

@@ -8,9 +8,6 @@ use Rattle.emit.specs.inner.Made.{Spells}
 use Rattle.expr.specs.laws.AwaitsLaws.{Left, left-start, left-end, turn}
 use Rattle.expr.proofs.skip.skip.Statement.{statement}
 use Rattle.expr.proofs.skip.skip.Tie as tie
-use Rattle.expr.proofs.skip.skip.Reads as reads
-use Rattle.expr.proofs.skip.skip.Lts as lts
-use Rattle.expr.proofs.skip.body_size.Reads as body-size-reads
 
 abbrev Inv-loop : tie.InvT-loop
 Inv-loop entries bodies u₀ v₀ more₀ u v more = (u ≤ length entries) × (v ≤ length bodies) × ((e : Expr) → Spells (flatExpr e) entries bodies → Left (flatExpr e) entries bodies u v more)
@@ -18,74 +15,38 @@ Inv-loop entries bodies u₀ v₀ more₀ u v more = (u ≤ length entries) × (
 abbrev μ-loop : tie.MeasureT-loop
 μ-loop entries bodies u₀ v₀ more₀ u v more = length entries - u
 
--- src/skip.rt:39:5
-loop-holds : tie.Need-loop-holds Inv-loop μ-loop
-loop-holds c = (omega arith, omega arith, λ e h. left-start e _ _ h)
-
--- src/skip.rt:40:24
 shared-slice-read-body-size : tie.Need-shared-slice-read-body-size Inv-loop μ-loop
 shared-slice-read-body-size c = let l = c .before .before .loop in let a = c .before .before .before .before .before .args in let h = c .before .before .before .before .before .pre in let t = turn (flatExpr (h .0)) (a .entries .now) (a .bodies .now) (l .u) (l .v) (l .more) (c .before .loop-test .taken) (l .inv .0) (l .inv .1) (l .inv .2 (h .0) (h .1)) in omega (arith, t .within)
 
--- src/skip.rt:40:14
-body-size-requires : tie.Need-body-size-requires Inv-loop μ-loop
-body-size-requires c κs = search needs
-
--- src/skip.rt:40:9
 add-v : tie.Need-add-v Inv-loop μ-loop
 add-v c = let l = c .before .before .before .loop in let a = c .before .before .before .before .before .before .args in let h = c .before .before .before .before .before .before .pre in let t = turn (flatExpr (h .0)) (a .entries .now) (a .bodies .now) (l .u) (l .v) (l .more) (c .before .before .loop-test .taken) (l .inv .0) (l .inv .1) (l .inv .2 (h .0) (h .1)) in omega (arith, t .bodies, c .body-size .ensures)
 
--- src/skip.rt:41:31
 add-more : tie.Need-add-more Inv-loop μ-loop
 add-more c = let l = c .before .before .before .loop in let a = c .before .before .before .before .before .before .args in let h = c .before .before .before .before .before .before .pre in let t = turn (flatExpr (h .0)) (a .entries .now) (a .bodies .now) (l .u) (l .v) (l .more) (c .before .before .loop-test .taken) (l .inv .0) (l .inv .1) (l .inv .2 (h .0) (h .1)) in omega (arith, t .within)
 
--- src/skip.rt:41:23
 shared-slice-read-more : tie.Need-shared-slice-read-more Inv-loop μ-loop
 shared-slice-read-more c = let l = c .before .before .before .before .loop in let a = c .before .before .before .before .before .before .before .args in let h = c .before .before .before .before .before .before .before .pre in let t = turn (flatExpr (h .0)) (a .entries .now) (a .bodies .now) (l .u) (l .v) (l .more) (c .before .before .before .loop-test .taken) (l .inv .0) (l .inv .1) (l .inv .2 (h .0) (h .1)) in omega (arith, t .within)
 
--- src/skip.rt:41:23
 cast-more : tie.Need-cast-more Inv-loop μ-loop
 cast-more c = let l = c .before .before .before .before .loop in let a = c .before .before .before .before .before .before .before .args in let h = c .before .before .before .before .before .before .before .pre in let t = turn (flatExpr (h .0)) (a .entries .now) (a .bodies .now) (l .u) (l .v) (l .more) (c .before .before .before .loop-test .taken) (l .inv .0) (l .inv .1) (l .inv .2 (h .0) (h .1)) in omega (arith, t .small)
 
--- src/skip.rt:41:16
 add-more-2 : tie.Need-add-more-2 Inv-loop μ-loop
 add-more-2 c = let l = c .before .before .before .before .loop in let a = c .before .before .before .before .before .before .before .args in let h = c .before .before .before .before .before .before .before .pre in let t = turn (flatExpr (h .0)) (a .entries .now) (a .bodies .now) (l .u) (l .v) (l .more) (c .before .before .before .loop-test .taken) (l .inv .0) (l .inv .1) (l .inv .2 (h .0) (h .1)) in omega (arith, t .small)
 
--- src/skip.rt:41:16
-sub-more : tie.Need-sub-more Inv-loop μ-loop
-sub-more c = omega (arith, c .before .before .before .loop-test .taken)
-
--- src/skip.rt:42:9
 add-u : tie.Need-add-u Inv-loop μ-loop
 add-u c = let l = c .before .before .before .before .loop in let a = c .before .before .before .before .before .before .before .args in let h = c .before .before .before .before .before .before .before .pre in let t = turn (flatExpr (h .0)) (a .entries .now) (a .bodies .now) (l .u) (l .v) (l .more) (c .before .before .before .loop-test .taken) (l .inv .0) (l .inv .1) (l .inv .2 (h .0) (h .1)) in omega (arith, t .within)
 
--- src/skip.rt:39:5
 loop-less : tie.Need-loop-less Inv-loop μ-loop
 loop-less c = let l = c .before .before .before .before .loop in let a = c .before .before .before .before .before .before .before .args in let h = c .before .before .before .before .before .before .before .pre in let t = turn (flatExpr (h .0)) (a .entries .now) (a .bodies .now) (l .u) (l .v) (l .more) (c .before .before .before .loop-test .taken) (l .inv .0) (l .inv .1) (l .inv .2 (h .0) (h .1)) in omega (arith, t .within)
 
--- src/skip.rt:39:5
 loop-again : tie.Need-loop-again Inv-loop μ-loop
 loop-again c = let l = c .before .before .before .before .loop in let a = c .before .before .before .before .before .before .before .args in let h = c .before .before .before .before .before .before .before .pre in let t = turn (flatExpr (h .0)) (a .entries .now) (a .bodies .now) (l .u) (l .v) (l .more) (c .before .before .before .loop-test .taken) (l .inv .0) (l .inv .1) (l .inv .2 (h .0) (h .1)) in (t .within, rw (c .before .body-size .ensures) (t .bodies), λ e s. rw (c .before .body-size .ensures) (turn (flatExpr e) (a .entries .now) (a .bodies .now) (l .u) (l .v) (l .more) (c .before .before .before .loop-test .taken) (l .inv .0) (l .inv .1) (l .inv .2 e s) .left _ (omega (arith, c .before .before .before .loop-test .taken))))
 
--- src/skip.rt:32:1
 returns : tie.Need-returns Inv-loop μ-loop
 returns c = λ e h. left-end (omega (arith, c .loop-test .left)) (c .before .loop .inv .2 e h)
 
 pub skip-spec : {M : Type 1} → statement M
 skip-spec =
-    tie.close
-    (tie.spec
-    Inv-loop
-    μ-loop
-    loop-holds
-    shared-slice-read-body-size
-    body-size-requires
-    add-v
-    add-more
-    shared-slice-read-more
-    cast-more
-    add-more-2
-    sub-more
-    add-u
-    loop-less
-    loop-again
-    returns)
+    tie.close (tie.spec Inv-loop μ-loop (λ c. (omega arith, omega arith, λ e h. left-start e _ _ h)) shared-slice-read-body-size (λ c κs. search needs)
+    add-v add-more shared-slice-read-more cast-more add-more-2 (λ c. omega (arith, c .before .before .before .loop-test .taken)) add-u loop-less
+    loop-again returns)

@@ -9,18 +9,6 @@ returns c =
     let a = c .before .before .args in
     has-none (a .s .now) (a .at) (a .n) (a .i) (a .key) (c .before .before .pre .1) (c .before .before .pre .2) (c .if1 .taken)
 
-add-wide : tie.Need-add-wide
-add-wide c = search needs
-
-add-wide-2 : tie.Need-add-wide-2
-add-wide-2 c = search needs
-
-shared-slice-read-wide : tie.Need-shared-slice-read-wide
-shared-slice-read-wide c = search needs
-
-wide-requires : tie.Need-wide-requires
-wide-requires c κs = search needs
-
 returns-2 : tie.Need-returns-2
 returns-2 c =
     let a = c .before .before .before .before .args in
@@ -28,4 +16,4 @@ returns-2 c =
 
 pub has-key-spec : {M : Type 1} → statement M
 has-key-spec =
-    tie.close (tie.spec returns add-wide add-wide-2 shared-slice-read-wide wide-requires returns-2)
+    tie.close (tie.spec returns (λ c. search needs) (λ c. search needs) (λ c. search needs) (λ c κs. search needs) returns-2)

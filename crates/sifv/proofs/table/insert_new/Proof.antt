@@ -17,9 +17,6 @@ use Rattle.sifv.specs.inner.Forms.{Formed}
 open-entry-requires : tie.Need-open-entry-requires
 open-entry-requires c κs = (c .before .before .pre .0 .0, new-place (c .before .before .args .s .now) (c .before .before .args .at) (c .before .before .args .n) (c .before .before .args .i) (c .before .before .args .key) (c .before .before .pre .0 .0) (c .before .before .pre .0 .3) (c .before .before .pre .0 .4) (c .before .before .pre .0 .5) (c .before .before .pre .0 .6) (c .before .before .pre .1 .0), c .before .before .pre .0 .6)
 
-low-requires : tie.Need-low-requires
-low-requires c κs = search needs
-
 add-s : tie.Need-add-s
 add-s c = omega (arith, new-place (c .before .before .before .before .before .before .args .s .now) (c .before .before .before .before .before .before .args .at) (c .before .before .before .before .before .before .args .n) (c .before .before .before .before .before .before .args .i) (c .before .before .before .before .before .before .args .key) (c .before .before .before .before .before .before .pre .0 .0) (c .before .before .before .before .before .before .pre .0 .3) (c .before .before .before .before .before .before .pre .0 .4) (c .before .before .before .before .before .before .pre .0 .5) (c .before .before .before .before .before .before .pre .0 .6) (c .before .before .before .before .before .before .pre .1 .0))
 
@@ -36,15 +33,6 @@ store-item-requires c κs =
     let g = new-place (c .before .before .before .before .before .before .before .args .s .now) (c .before .before .before .before .before .before .before .args .at) (c .before .before .before .before .before .before .before .args .n) (c .before .before .before .before .before .before .before .args .i) (c .before .before .before .before .before .before .before .args .key) (c .before .before .before .before .before .before .before .pre .0 .0) (c .before .before .before .before .before .before .before .pre .0 .3) (c .before .before .before .before .before .before .before .pre .0 .4) (c .before .before .before .before .before .before .before .pre .0 .5) (c .before .before .before .before .before .before .before .pre .0 .6) (c .before .before .before .before .before .before .before .pre .1 .0) in
     let q = new-from (c .before .before .before .before .before .before .before .args .s .now) (c .before .before .before .before .before .before .before .args .at) (c .before .before .before .before .before .before .before .args .n) (c .before .before .before .before .before .before .before .args .i) (c .before .before .before .before .before .before .before .args .key) (c .before .before .before .before .before .before .before .pre .0 .0) (c .before .before .before .before .before .before .before .pre .0 .3) (c .before .before .before .before .before .before .before .pre .0 .4) (c .before .before .before .before .before .before .before .pre .0 .5) (c .before .before .before .before .before .before .before .pre .0 .6) (c .before .before .before .before .before .before .before .pre .1 .0) (c .before .before .before .before .before .before .before .args .from) (c .before .before .before .before .before .before .before .pre .0 .2) (c .before .before .before .before .before .before .before .pre .1 .5) (c .before .before .before .before .open-entry .ensures) (ap (set (c .before .before .before .before .open-entry .last .0) (c .before .before .before .before .before .before .before .args .at + (232 + c .before .before .before .before .before .before .before .args .i))) (low-same (c .before .before .before .before .before .before .before .args .key) (c .before .low .ensures) (omega (arith, c .before .before .before .before .before .before .before .pre .1 .2)))) in
     (omega (arith, q .1, c .before .before .before .before .before .before .before .pre .0 .0), omega (arith, q .1, c .before .before .before .before .before .before .before .pre .0 .1), c .before .before .before .before .before .before .before .pre .0 .2, omega (arith, g, c .before .before .before .before .before .before .before .pre .0 .6), subst Formed (sym (q .0)) (c .before .before .before .before .before .before .before .pre .1 .3), subst (λ (r : List ℕ). 0 < kindIn (seen (decodeSlot r))) (sym (q .0)) (c .before .before .before .before .before .before .before .pre .1 .4), subst (λ (r : List ℕ). kindIn (seen (decodeSlot r)) ≤ 4) (sym (q .0)) (c .before .before .before .before .before .before .before .pre .1 .5))
-
-add-low : tie.Need-add-low
-add-low c = search needs
-
-low-requires-2 : tie.Need-low-requires-2
-low-requires-2 c κs = search needs
-
-add-s-3 : tie.Need-add-s-3
-add-s-3 c = search needs
 
 slice-write-s-2 : tie.Need-slice-write-s-2
 slice-write-s-2 c = omega (arith, new-length (c .before .before .before .before .before .before .before .before .before .before .before .args .s .now) (c .before .before .before .before .before .before .before .before .before .before .before .args .at) (c .before .before .before .before .before .before .before .before .before .before .before .args .n) (c .before .before .before .before .before .before .before .before .before .before .before .args .i) (c .before .before .before .before .before .before .before .before .before .before .before .args .key) (c .before .before .before .before .before .before .before .before .before .before .before .pre .0 .0) (c .before .before .before .before .before .before .before .before .before .before .before .pre .0 .3) (c .before .before .before .before .before .before .before .before .before .before .before .pre .0 .4) (c .before .before .before .before .before .before .before .before .before .before .before .pre .0 .5) (c .before .before .before .before .before .before .before .before .before .before .before .pre .0 .6) (c .before .before .before .before .before .before .before .before .before .before .before .pre .1 .0) (singleSeen (seen (decodeSlot (part (set (c .before .before .before .before .before .before .before .before .open-entry .last .0) (c .before .before .before .before .before .before .before .before .before .before .before .args .at + (232 + c .before .before .before .before .before .before .before .before .before .before .before .args .i)) (c .before .before .before .before .before .low .result)) (c .before .before .before .before .before .before .before .before .before .before .before .args .from) 256)))) (c .before .before .before .before .before .before .before .before .open-entry .ensures) (ap (set (c .before .before .before .before .before .before .before .before .open-entry .last .0) (c .before .before .before .before .before .before .before .before .before .before .before .args .at + (232 + c .before .before .before .before .before .before .before .before .before .before .before .args .i))) (low-same (c .before .before .before .before .before .before .before .before .before .before .before .args .key) (c .before .before .before .before .before .low .ensures) (omega (arith, c .before .before .before .before .before .before .before .before .before .before .before .pre .1 .2)))) (c .before .before .before .store-item .ensures))
@@ -63,17 +51,6 @@ returns c =
 
 pub insert-new-spec : {M : Type 1} → statement M
 insert-new-spec =
-    tie.close
-    (tie.spec
-    open-entry-requires
-    low-requires
-    add-s
-    add-s-2
-    slice-write-s
-    store-item-requires
-    add-low
-    low-requires-2
-    add-s-3
-    slice-write-s-2
-    same-length
-    returns)
+    tie.close (tie.spec open-entry-requires (λ c κs. search needs) add-s add-s-2 slice-write-s
+    store-item-requires (λ c. search needs) (λ c κs. search needs) (λ c. search needs)
+    slice-write-s-2 same-length returns)

@@ -19,69 +19,6 @@ abbrev μ-loop : tie.MeasureT-loop
 loop-holds : tie.Need-loop-holds Inv-loop μ-loop
 loop-holds c = (c .before .pre .1, omega arith, refl, sym (opened-none (c .before .args .s .now) (c .before .args .at) (c .before .args .n) (c .before .pre .0)))
 
-sub-j : tie.Need-sub-j Inv-loop μ-loop
-sub-j c = omega arith
-
-mul-move-u64 : tie.Need-mul-move-u64 Inv-loop μ-loop
-mul-move-u64 c = omega arith
-
-add-move-u64 : tie.Need-add-move-u64 Inv-loop μ-loop
-add-move-u64 c = omega arith
-
-add-move-u64-2 : tie.Need-add-move-u64-2 Inv-loop μ-loop
-add-move-u64-2 c = omega arith
-
-mul-move-u64-2 : tie.Need-mul-move-u64-2 Inv-loop μ-loop
-mul-move-u64-2 c = omega arith
-
-add-move-u64-3 : tie.Need-add-move-u64-3 Inv-loop μ-loop
-add-move-u64-3 c = omega arith
-
-add-move-u64-4 : tie.Need-add-move-u64-4 Inv-loop μ-loop
-add-move-u64-4 c = omega arith
-
-move-u64-requires : tie.Need-move-u64-requires Inv-loop μ-loop
-move-u64-requires c κs = search needs
-
-add-s : tie.Need-add-s Inv-loop μ-loop
-add-s c = omega arith
-
-add-s-2 : tie.Need-add-s-2 Inv-loop μ-loop
-add-s-2 c = omega arith
-
-slice-read-s : tie.Need-slice-read-s Inv-loop μ-loop
-slice-read-s c = omega arith
-
-add-s-3 : tie.Need-add-s-3 Inv-loop μ-loop
-add-s-3 c = omega arith
-
-add-s-4 : tie.Need-add-s-4 Inv-loop μ-loop
-add-s-4 c = omega arith
-
-slice-write-s : tie.Need-slice-write-s Inv-loop μ-loop
-slice-write-s c = omega arith
-
-add-s-5 : tie.Need-add-s-5 Inv-loop μ-loop
-add-s-5 c = omega arith
-
-add-s-6 : tie.Need-add-s-6 Inv-loop μ-loop
-add-s-6 c = omega arith
-
-slice-read-s-2 : tie.Need-slice-read-s-2 Inv-loop μ-loop
-slice-read-s-2 c = simp length-set (omega arith)
-
-add-s-7 : tie.Need-add-s-7 Inv-loop μ-loop
-add-s-7 c = omega arith
-
-add-s-8 : tie.Need-add-s-8 Inv-loop μ-loop
-add-s-8 c = omega arith
-
-slice-write-s-2 : tie.Need-slice-write-s-2 Inv-loop μ-loop
-slice-write-s-2 c = simp length-set (omega arith)
-
-loop-less : tie.Need-loop-less Inv-loop μ-loop
-loop-less c = omega arith
-
 loop-again : tie.Need-loop-again Inv-loop μ-loop
 loop-again c =
     let a = c .before .before .before .before .before .before .before .before .before .args in
@@ -89,9 +26,6 @@ loop-again c =
     let e : l .j - 1 + 1 ≡ l .j = omega arith in
     let q = open-turn (a .s .now) (a .at) (l .j - 1) (a .n) (c .before .before .before .before .before .before .before .before .before .pre .0) (c .before .before .before .before .before .before .before .before .before .pre .2) (omega arith) (l .inv .3 ∙ ap (λ (k : ℕ). splice (a .s .now) (a .at) (opened (part (a .s .now) (a .at) 256) k (a .n))) (sym e)) (l .inv .2) (c .before .before .before .before .move-u64 .ensures) refl refl in
     (omega arith, omega arith, open-length (a .s .now) (a .at) (l .j - 1) (a .n) (c .before .before .before .before .before .before .before .before .before .pre .0) (c .before .before .before .before .before .before .before .before .before .pre .2) (omega arith) q, q)
-
-same-length : tie.Need-same-length Inv-loop μ-loop
-same-length c = c .before .loop .inv .2
 
 returns : tie.Need-returns Inv-loop μ-loop
 returns c =
@@ -101,32 +35,10 @@ returns c =
 
 pub open-entry-spec : {M : Type 1} → statement M
 open-entry-spec =
-    tie.close
-    (tie.spec
-    Inv-loop
-    μ-loop
-    loop-holds
-    sub-j
-    mul-move-u64
-    add-move-u64
-    add-move-u64-2
-    mul-move-u64-2
-    add-move-u64-3
-    add-move-u64-4
-    move-u64-requires
-    add-s
-    add-s-2
-    slice-read-s
-    add-s-3
-    add-s-4
-    slice-write-s
-    add-s-5
-    add-s-6
-    slice-read-s-2
-    add-s-7
-    add-s-8
-    slice-write-s-2
-    loop-less
-    loop-again
-    same-length
-    returns)
+    tie.close (tie.spec Inv-loop μ-loop loop-holds (λ c. omega arith) (λ c. omega arith)
+    (λ c. omega arith) (λ c. omega arith) (λ c. omega arith) (λ c. omega arith)
+    (λ c. omega arith) (λ c κs. search needs) (λ c. omega arith) (λ c. omega arith)
+    (λ c. omega arith) (λ c. omega arith) (λ c. omega arith) (λ c. omega arith)
+    (λ c. omega arith) (λ c. omega arith) (λ c. simp length-set (omega arith))
+    (λ c. omega arith) (λ c. omega arith) (λ c. simp length-set (omega arith))
+    (λ c. omega arith) loop-again (λ c. c .before .loop .inv .2) returns)

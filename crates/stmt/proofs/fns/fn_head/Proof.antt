@@ -22,9 +22,6 @@ add-end c = omega (arith, fn-room (is-a-fn (c .before .before .before .before .p
 sub-nextregs : tie.Need-sub-nextregs
 sub-nextregs c = omega (arith, fn-room (is-a-fn (c .before .before .before .before .pre .0) (c .before .before .before .before .pre .1)) .0)
 
-nextregs-requires : tie.Need-nextregs-requires
-nextregs-requires c κs = c .before .before .before .before .pre .0 .ready .registers
-
 shared-slice-read-push-fn : tie.Need-shared-slice-read-push-fn
 shared-slice-read-push-fn c = omega (arith, fn-room (is-a-fn (c .before .before .before .before .before .before .pre .0) (c .before .before .before .before .before .before .pre .1)) .2)
 
@@ -64,38 +61,13 @@ mul-start c = omega (arith, fn-room (is-a-fn (c .before .before .before .before 
 add-start : tie.Need-add-start
 add-start c = omega (arith, fn-room (is-a-fn (c .before .before .before .before .before .before .before .before .before .before .before .before .before .before .before .before .pre .0) (c .before .before .before .before .before .before .before .before .before .before .before .before .before .before .before .before .pre .1)) .0, fn-room (is-a-fn (c .before .before .before .before .before .before .before .before .before .before .before .before .before .before .before .before .pre .0) (c .before .before .before .before .before .before .before .before .before .before .before .before .before .before .before .before .pre .1)) .1, c .before .before .before .before .before .before .before .before .before .before .before .before .before .before .before .before .good .0 .0)
 
-start-requires : tie.Need-start-requires
-start-requires c κs = search needs
-
-same-length : tie.Need-same-length
-same-length c = search needs
-
 returns : tie.Need-returns
 returns c = head-goes (c .before .before .before .before .before .before .before .before .before .before .before .before .before .before .before .before .before .args .contents .now) (c .before .before .before .before .before .before .before .before .before .before .before .before .before .before .before .before .before .args .bodies .now) (c .before .before .before .before .before .before .before .before .before .before .before .before .before .before .before .before .before .args .p) (c .before .before .before .before .before .before .before .before .before .before .before .before .before .before .before .before .before .pre .0 .ready) (c .before .before .before .before .before .before .before .before .before .before .before .before .nextregs .ensures) (c .before .before .before .before .before .before .before .before .push-fn .ensures) (c .before .before .before .pops .ensures) (c .start .ensures)
 
 pub fn-head-spec : {M : Type 1} → statement M
 fn-head-spec =
-    tie.close
-    (tie.spec
-    add-count
-    shared-slice-read-count
-    cast-count
-    add-end
-    sub-nextregs
-    nextregs-requires
-    shared-slice-read-push-fn
-    add-push-fn
-    sub-push-fn
-    part-push-fn-start
-    part-push-fn-end
-    push-fn-requires
-    add-pops
-    sub-pops
-    part-pops-start
-    part-pops-end
-    pops-requires
-    mul-start
-    add-start
-    start-requires
-    same-length
-    returns)
+    tie.close (tie.spec add-count shared-slice-read-count cast-count add-end sub-nextregs
+    (λ c κs. c .before .before .before .before .pre .0 .ready .registers)
+    shared-slice-read-push-fn add-push-fn sub-push-fn part-push-fn-start part-push-fn-end
+    push-fn-requires add-pops sub-pops part-pops-start part-pops-end pops-requires mul-start
+    add-start (λ c κs. search needs) (λ c. search needs) returns)

@@ -18,15 +18,6 @@ abbrev μ-loop : tie.MeasureT-loop
 loop-holds : tie.Need-loop-holds Inv-loop μ-loop
 loop-holds c = (omega arith, c .pre, regs-start (c .args .n) (c .args .low))
 
-nextreg-requires : tie.Need-nextreg-requires Inv-loop μ-loop
-nextreg-requires c κs = c .before .loop .inv .1
-
-add-i : tie.Need-add-i Inv-loop μ-loop
-add-i c = omega arith
-
-loop-less : tie.Need-loop-less Inv-loop μ-loop
-loop-less c = omega arith
-
 loop-again : tie.Need-loop-again Inv-loop μ-loop
 loop-again c = let l = c .before .before .loop in (omega arith, step-bound (l .q) (c .nextreg .ensures) (l .inv .1), sym (regs-turn (c .before .before .before .args .n) (l .i) (l .q) (omega arith) (c .nextreg .ensures)) ∙ l .inv .2)
 
@@ -35,5 +26,5 @@ returns c = let l = c .before .loop in sym (regs-end (c .before .before .args .n
 
 pub nextregs-spec : {M : Type 1} → statement M
 nextregs-spec =
-    tie.close
-    (tie.spec Inv-loop μ-loop loop-holds nextreg-requires add-i loop-less loop-again returns)
+    tie.close (tie.spec Inv-loop μ-loop loop-holds (λ c κs. c .before .loop .inv .1)
+    (λ c. omega arith) (λ c. omega arith) loop-again returns)

@@ -20,46 +20,14 @@ abbrev μ-loop : tie.MeasureT-loop
 loop-holds : tie.Need-loop-holds Inv-loop μ-loop
 loop-holds c = (omega arith, refl, items-start (c .before .before .args .out .now) (c .before .before .args .k) (c .before .before .args .names .now))
 
-add-put-item : tie.Need-add-put-item Inv-loop μ-loop
-add-put-item c = omega arith
-
-shared-slice-read-wide : tie.Need-shared-slice-read-wide Inv-loop μ-loop
-shared-slice-read-wide c = omega arith
-
-wide-requires : tie.Need-wide-requires Inv-loop μ-loop
-wide-requires c κs = search needs
-
-put-item-requires : tie.Need-put-item-requires Inv-loop μ-loop
-put-item-requires c κs = omega arith
-
-add-i : tie.Need-add-i Inv-loop μ-loop
-add-i c = omega arith
-
-loop-less : tie.Need-loop-less Inv-loop μ-loop
-loop-less c = omega arith
-
 loop-again : tie.Need-loop-again Inv-loop μ-loop
 loop-again c = let l = c .before .before .before .before .before .before .before .loop in let a = c .before .before .before .before .before .before .before .before .before .before .args in (omega arith, item-length (l .out) (a .k + l .i) (Str (c .before .before .before .wide .result)) (omega arith) (c .before .before .put-item .ensures .0) ∙ l .inv .1, items-turn (l .out) (a .k) (l .i) (a .names .now) (omega arith) (omega arith) (c .before .before .before .wide .ensures .0) (c .before .before .put-item .ensures .0) ∙ l .inv .2)
-
-same-length : tie.Need-same-length Inv-loop μ-loop
-same-length c = c .before .loop .inv .1
 
 returns : tie.Need-returns Inv-loop μ-loop
 returns c = let l = c .before .loop in sym (items-end (l .out) (c .before .before .before .before .args .k) (l .i) (c .before .before .before .before .args .names .now) (c .loop-test .left)) ∙ l .inv .2
 
 pub param-items-spec : {M : Type 1} → statement M
 param-items-spec =
-    tie.close
-    (tie.spec
-    Inv-loop
-    μ-loop
-    loop-holds
-    add-put-item
-    shared-slice-read-wide
-    wide-requires
-    put-item-requires
-    add-i
-    loop-less
-    loop-again
-    same-length
-    returns)
+    tie.close (tie.spec Inv-loop μ-loop loop-holds (λ c. omega arith) (λ c. omega arith)
+    (λ c κs. search needs) (λ c κs. omega arith) (λ c. omega arith) (λ c. omega arith)
+    loop-again (λ c. c .before .loop .inv .1) returns)

@@ -6,31 +6,13 @@ use borrow.Author.Needs.{needs}
 use Rattle.stmt.proofs.fns.pop.Statement.{statement}
 use Rattle.stmt.proofs.fns.pop.Tie as tie
 
-fields-of-requires : tie.Need-fields-of-requires
-fields-of-requires c κs = search needs
-
-push-op-requires : tie.Need-push-op-requires
-push-op-requires c κs = search needs
-
-fields-of-requires-2 : tie.Need-fields-of-requires-2
-fields-of-requires-2 c κs = search needs
-
 push-op-requires-2 : tie.Need-push-op-requires-2
 push-op-requires-2 c κs = let w = some-place (c .before .before .before .before .before .before .before .before .args .keep) (c .before .before .before .before .before .before .before .before .args .low .decls) in ready-did (c .before .before .before .before .before .before .before .before .pre) (c .before .before .before .before .push-op .ensures (w .0) (instr (c .before .before .before .before .before .before .before .before .args .lbl) (FnStackPop (c .before .before .before .before .before .before .before .before .args .r))) refl (ap fieldBytes (c .before .before .before .before .before .before .fields-of .ensures)) (w .1))
-
-same-length : tie.Need-same-length
-same-length c = search needs
 
 returns : tie.Need-returns
 returns c = λ w e. let d = c .before .before .before .before .before .before .before .push-op .ensures w (instr (c .before .before .before .before .before .before .before .before .before .before .before .args .lbl) (FnStackPop (c .before .before .before .before .before .before .before .before .before .before .before .args .r))) refl (ap fieldBytes (c .before .before .before .before .before .before .before .before .before .fields-of .ensures)) e in did-then d (c .before .before .push-op2 .ensures w (instr (c .before .before .before .before .before .before .before .before .before .before .before .args .lbl) (Str (c .before .before .before .before .before .before .before .before .before .before .before .args .r) (c .before .before .before .before .before .before .before .before .before .before .before .args .x))) refl (ap fieldBytes (c .before .before .before .before .fields-of2 .ensures)) (kept-did w e d))
 
 pub pop-spec : {M : Type 1} → statement M
 pop-spec =
-    tie.close
-    (tie.spec
-    fields-of-requires
-    push-op-requires
-    fields-of-requires-2
-    push-op-requires-2
-    same-length
-    returns)
+    tie.close (tie.spec (λ c κs. search needs) (λ c κs. search needs) (λ c κs. search needs)
+    push-op-requires-2 (λ c. search needs) returns)

@@ -18,46 +18,15 @@ abbrev μ-loop : tie.MeasureT-loop
 loop-holds : tie.Need-loop-holds Inv-loop μ-loop
 loop-holds c = (omega arith, refl, c .before .before .pre .0, pops-start (c .before .before .args .keep) (c .before .before .args .names .now) (c .before .before .args .reg) (c .before .before .args .lbl) (c .before .before .args .low) (c .before .before .args .out .now))
 
-add-low : tie.Need-add-low Inv-loop μ-loop
-add-low c = omega (arith, c .before .before .before .before .pre .1)
-
-low-requires : tie.Need-low-requires Inv-loop μ-loop
-low-requires c κs = search needs
-
-shared-slice-read-pop : tie.Need-shared-slice-read-pop Inv-loop μ-loop
-shared-slice-read-pop c = omega arith
-
-pop-requires : tie.Need-pop-requires Inv-loop μ-loop
-pop-requires c κs = c .before .before .before .before .loop .inv .2
-
-add-i : tie.Need-add-i Inv-loop μ-loop
-add-i c = omega arith
-
-loop-less : tie.Need-loop-less Inv-loop μ-loop
-loop-less c = omega arith
-
 loop-again : tie.Need-loop-again Inv-loop μ-loop
 loop-again c = let l = c .before .before .before .before .before .before .before .loop in (omega arith, search needs, pop-ready (l .inv .2) (c .before .before .pop .ensures), pops-turn (c .before .before .before .before .before .low .result) _ (l .inv .3) (omega arith) (c .before .before .before .before .before .low .ensures) refl (c .before .before .pop .ensures))
-
-same-length : tie.Need-same-length Inv-loop μ-loop
-same-length c = c .before .loop .inv .1
 
 returns : tie.Need-returns Inv-loop μ-loop
 returns c = let l = c .before .loop in pops-end (l .i) (l .inv .3) (c .loop-test .left)
 
 pub pops-spec : {M : Type 1} → statement M
 pops-spec =
-    tie.close
-    (tie.spec
-    Inv-loop
-    μ-loop
-    loop-holds
-    add-low
-    low-requires
-    shared-slice-read-pop
-    pop-requires
-    add-i
-    loop-less
-    loop-again
-    same-length
-    returns)
+    tie.close (tie.spec Inv-loop μ-loop loop-holds
+    (λ c. omega (arith, c .before .before .before .before .pre .1)) (λ c κs. search needs)
+    (λ c. omega arith) (λ c κs. c .before .before .before .before .loop .inv .2)
+    (λ c. omega arith) (λ c. omega arith) loop-again (λ c. c .before .loop .inv .1) returns)

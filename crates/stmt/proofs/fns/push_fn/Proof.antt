@@ -6,39 +6,17 @@ use borrow.Author.Needs.{needs}
 use Rattle.stmt.proofs.fns.push_fn.Statement.{statement}
 use Rattle.stmt.proofs.fns.push_fn.Tie as tie
 
-returns : tie.Need-returns
-returns c = fn-refused (c .if1 .taken)
-
-is-full-requires : tie.Need-is-full-requires
-is-full-requires c κs = search needs
-
-refused-requires : tie.Need-refused-requires
-refused-requires c κs = search needs
-
 returns-2 : tie.Need-returns-2
 returns-2 c = fn-full (c .before .before .before .if1 .left) (sym (c .before .before .is-full .ensures) ∙ c .before .if2 .taken) (c .refused .ensures)
 
 keep-fn-requires : tie.Need-keep-fn-requires
 keep-fn-requires c κs = let h = roomy (c .before .before .before .before .before .before .before .args .keep) (c .before .before .before .before .before .before .before .args .low) _ (sym (c .before .before .is-full .ensures) ∙ c .before .if2 .left) in ((λ e. let g = h .1 e in (omega (arith, g .0), g .1)), (c .before .before .before .before .before .before .before .pre .1, c .before .before .before .before .before .before .before .pre .0 .room))
 
-count-requires : tie.Need-count-requires
-count-requires c κs = search needs
-
-same-length : tie.Need-same-length
-same-length c = search needs
-
 returns-3 : tie.Need-returns-3
 returns-3 c = fn-put (c .before .before .before .before .before .before .before .if1 .left) (sym (c .before .before .before .before .before .before .is-full .ensures) ∙ c .before .before .before .before .before .if2 .left) (c .count .ensures) (c .before .before .before .keep-fn .ensures)
 
 pub push-fn-spec : {M : Type 1} → statement M
 push-fn-spec =
-    tie.close
-    (tie.spec
-    returns
-    is-full-requires
-    refused-requires
-    returns-2
-    keep-fn-requires
-    count-requires
-    same-length
+    tie.close (tie.spec (λ c. fn-refused (c .if1 .taken)) (λ c κs. search needs)
+    (λ c κs. search needs) returns-2 keep-fn-requires (λ c κs. search needs) (λ c. search needs)
     returns-3)

@@ -5,26 +5,11 @@ use borrow.Author.Needs.{needs}
 use Rattle.stmt.proofs.fors.for_tail.Statement.{statement}
 use Rattle.stmt.proofs.fors.for_tail.Tie as tie
 
-fields-of-requires : tie.Need-fields-of-requires
-fields-of-requires c κs = search needs
-
-push-at-requires : tie.Need-push-at-requires
-push-at-requires c κs = search needs
-
-fields-of-requires-2 : tie.Need-fields-of-requires-2
-fields-of-requires-2 c κs = search needs
-
 push-at-requires-2 : tie.Need-push-at-requires-2
 push-at-requires-2 c κs = emitted-ready (tail₁ (c .before .before .before .before .before .before .fields-of .ensures) (c .before .before .before .before .push-at .ensures)) (c .before .before .before .before .before .before .before .before .pre)
 
-fields-of-requires-3 : tie.Need-fields-of-requires-3
-fields-of-requires-3 c κs = search needs
-
 load-at-requires : tie.Need-load-at-requires
 load-at-requires c κs = emitted-ready (tail₂ (c .before .before .before .before .before .before .before .before .before .before .before .fields-of .ensures) (c .before .before .before .before .before .before .before .before .before .push-at .ensures) (c .before .before .before .before .before .before .fields-of2 .ensures) (c .before .before .before .before .push-at2 .ensures)) (c .before .before .before .before .before .before .before .before .before .before .before .before .before .pre)
-
-fields-of-requires-4 : tie.Need-fields-of-requires-4
-fields-of-requires-4 c κs = search needs
 
 push-at-requires-3 : tie.Need-push-at-requires-3
 push-at-requires-3 c κs = emitted-ready (tail₃ (c .before .before .before .before .before .before .before .before .before .before .before .before .before .before .before .before .fields-of .ensures) (c .before .before .before .before .before .before .before .before .before .before .before .before .before .before .push-at .ensures) (c .before .before .before .before .before .before .before .before .before .before .before .fields-of2 .ensures) (c .before .before .before .before .before .before .before .before .before .push-at2 .ensures) (c .before .before .before .before .before .before .fields-of3 .ensures) (c .before .before .before .before .load-at .ensures)) (c .before .before .before .before .before .before .before .before .before .before .before .before .before .before .before .before .before .before .pre)
@@ -37,15 +22,6 @@ returns c = tail₄ (c .before .before .before .before .before .before .before .
 
 pub for-tail-spec : {M : Type 1} → statement M
 for-tail-spec =
-    tie.close
-    (tie.spec
-    fields-of-requires
-    push-at-requires
-    fields-of-requires-2
-    push-at-requires-2
-    fields-of-requires-3
-    load-at-requires
-    fields-of-requires-4
-    push-at-requires-3
-    same-length
-    returns)
+    tie.close (tie.spec (λ c κs. search needs) (λ c κs. search needs) (λ c κs. search needs)
+    push-at-requires-2 (λ c κs. search needs) load-at-requires (λ c κs. search needs)
+    push-at-requires-3 same-length returns)

@@ -5,17 +5,11 @@ use borrow.Author.Needs.{needs}
 use Rattle.stmt.proofs.jumps.if_end.Statement.{statement}
 use Rattle.stmt.proofs.jumps.if_end.Tie as tie
 
-ended-requires : tie.Need-ended-requires
-ended-requires c κs = search needs
-
 nop-requires : tie.Need-nop-requires
 nop-requires c κs = rw (c .before .ended .ensures) (c .before .before .before .pre .0)
-
-same-length : tie.Need-same-length
-same-length c = search needs
 
 returns : tie.Need-returns
 returns c = rw (ap (λ (d : Done). d .lbl) (c .before .before .before .before .ended .ensures)) at (label-first {p = c .before .before .before .before .before .before .args .p} (c .before .before .before .before .ended .ensures) (c .before .before .nop .ensures))
 
 pub if-end-spec : {M : Type 1} → statement M
-if-end-spec = tie.close (tie.spec ended-requires nop-requires same-length returns)
+if-end-spec = tie.close (tie.spec (λ c κs. search needs) nop-requires (λ c. search needs) returns)

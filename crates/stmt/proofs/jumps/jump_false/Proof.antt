@@ -7,31 +7,10 @@ use borrow.Author.Needs.{needs}
 use Rattle.stmt.proofs.jumps.jump_false.Statement.{statement}
 use Rattle.stmt.proofs.jumps.jump_false.Tie as tie
 
-prevreg-requires : tie.Need-prevreg-requires
-prevreg-requires c κs = search needs
-
-fields-of-requires : tie.Need-fields-of-requires
-fields-of-requires c κs = search needs
-
-push-at-requires : tie.Need-push-at-requires
-push-at-requires c κs = search needs
-
-newlbl-requires : tie.Need-newlbl-requires
-newlbl-requires c κs = search needs
-
-same-length : tie.Need-same-length
-same-length c = search needs
-
 returns : tie.Need-returns
 returns c = label-next (emit-one (c .before .before .before .before .before .before .before .before .args .p .lbl) (JmpCnd Jmpf (prev (c .before .before .before .before .before .before .before .before .args .p .low .reg)) 0) refl (λ j. ap fieldBytes (rw (c .before .before .before .before .before .before .prevreg .ensures) at (c .before .before .before .before .before .fields-of .ensures))) (c .before .before .before .push-at .ensures)) (c .newlbl .ensures)
 
 pub jump-false-spec : {M : Type 1} → statement M
 jump-false-spec =
-    tie.close
-    (tie.spec
-    prevreg-requires
-    fields-of-requires
-    push-at-requires
-    newlbl-requires
-    same-length
-    returns)
+    tie.close (tie.spec (λ c κs. search needs) (λ c κs. search needs) (λ c κs. search needs)
+    (λ c κs. search needs) (λ c. search needs) returns)

@@ -3,18 +3,6 @@ use borrow.Author.Needs.{needs}
 use Rattle.stmt.proofs.jumps.update_op_at.Statement.{statement}
 use Rattle.stmt.proofs.jumps.update_op_at.Tie as tie
 
-mul-put-u64 : tie.Need-mul-put-u64
-mul-put-u64 c = search needs
-
-add-put-u64 : tie.Need-add-put-u64
-add-put-u64 c = search needs
-
-put-u64-requires : tie.Need-put-u64-requires
-put-u64-requires c κs = search needs
-
-same-length : tie.Need-same-length
-same-length c = search needs
-
 returns : tie.Need-returns
 returns c = rw (lt-ltb (c .before .before .before .before .before .before .before .before .before .args .a .recs) (c .before .before .before .before .before .before .before .before .before .args .b .recs) (c .before .before .before .before .before .if1 .taken)) (c .before .before .put-u64 .ensures)
 
@@ -23,4 +11,4 @@ returns-2 c = rw (le-ltb (c .before .before .before .before .args .a .recs) (c .
 
 pub update-op-at-spec : {M : Type 1} → statement M
 update-op-at-spec =
-    tie.close (tie.spec mul-put-u64 add-put-u64 put-u64-requires same-length returns returns-2)
+    tie.close (tie.spec (λ c. search needs) (λ c. search needs) (λ c κs. search needs) (λ c. search needs) returns returns-2)

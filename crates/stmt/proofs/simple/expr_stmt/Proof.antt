@@ -3,17 +3,11 @@ use borrow.Author.Needs.{needs}
 use Rattle.stmt.proofs.simple.expr_stmt.Statement.{statement}
 use Rattle.stmt.proofs.simple.expr_stmt.Tie as tie
 
-pass-requires : tie.Need-pass-requires
-pass-requires c κs = search needs
-
 expr-at-requires : tie.Need-expr-at-requires
 expr-at-requires c κs = expr-stmt-reads (c .before .before .before .before .before .args .contents .now) (c .before .before .before .before .before .args .bodies .now) (c .before .before .before .before .before .args .p) (c .before .pass .ensures) (c .before .before .before .before .before .pre .0) (c .before .before .before .before .before .pre .1)
-
-same-length : tie.Need-same-length
-same-length c = search needs
 
 returns : tie.Need-returns
 returns c = expr-stmt-goes (c .before .before .before .before .before .before .before .before .args .contents .now) (c .before .before .before .before .before .before .before .before .args .bodies .now) (c .before .before .before .before .before .before .before .before .args .p) (c .before .before .before .before .pass .ensures) (c .before .before .before .before .before .before .before .before .pre .1) (c .before .before .expr-at .ensures)
 
 pub expr-stmt-spec : {M : Type 1} → statement M
-expr-stmt-spec = tie.close (tie.spec pass-requires expr-at-requires same-length returns)
+expr-stmt-spec = tie.close (tie.spec (λ c κs. search needs) expr-at-requires (λ c. search needs) returns)

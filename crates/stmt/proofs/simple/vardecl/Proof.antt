@@ -7,23 +7,11 @@ use Rattle.stmt.proofs.simple.vardecl.Tie as tie
 shared-slice-read-name : tie.Need-shared-slice-read-name
 shared-slice-read-name c = omega (arith, var-room (c .before .before .before .before .args .contents .now) (c .before .before .before .before .args .bodies .now) (c .before .before .before .before .args .p) (c .before .before .before .before .pre .0) (c .before .before .before .before .pre .1))
 
-pass-requires : tie.Need-pass-requires
-pass-requires c κs = search needs
-
-add-if1 : tie.Need-add-if1
-add-if1 c = search needs
-
 shared-slice-read-if1 : tie.Need-shared-slice-read-if1
 shared-slice-read-if1 c = omega (arith, stmt-room (c .before .before .before .before .before .before .args .contents .now) (c .before .before .before .before .before .before .args .bodies .now) (c .before .before .before .before .before .before .args .p) (c .before .before .before .before .before .before .pre .0))
 
-fields-of-requires : tie.Need-fields-of-requires
-fields-of-requires c κs = search needs
-
 push-at-requires : tie.Need-push-at-requires
 push-at-requires c κs = rw (c .before .before .before .before .pass .ensures) (c .before .before .before .before .before .before .before .before .before .pre .0 .ready)
-
-same-length : tie.Need-same-length
-same-length c = search needs
 
 returns : tie.Need-returns
 returns c = var-goes (c .before .before .before .before .before .before .before .before .before .before .before .before .args .contents .now) (c .before .before .before .before .before .before .before .before .before .before .before .before .args .bodies .now) (c .before .before .before .before .before .before .before .before .before .before .before .before .args .p) (c .before .before .before .before .before .before .before .pass .ensures) (c .before .before .before .before .before .before .before .before .before .before .before .before .pre .1) (c .before .before .before .before .before .if1 .taken) (c .before .before .before .before .fields-of .ensures) (c .before .before .push-at .ensures)
@@ -31,24 +19,11 @@ returns c = var-goes (c .before .before .before .before .before .before .before 
 assign-at-requires : tie.Need-assign-at-requires
 assign-at-requires c κs = init-reads (c .before .before .before .before .before .before .before .before .args .contents .now) (c .before .before .before .before .before .before .before .before .args .bodies .now) (c .before .before .before .before .before .before .before .before .args .p) (c .before .before .before .pass .ensures) (c .before .before .before .before .before .before .before .before .pre .0) (c .before .before .before .before .before .before .before .before .pre .1) (c .before .if1 .left)
 
-same-length-2 : tie.Need-same-length-2
-same-length-2 c = search needs
-
 returns-2 : tie.Need-returns-2
 returns-2 c = init-goes (c .before .before .before .before .before .before .before .before .before .before .before .args .contents .now) (c .before .before .before .before .before .before .before .before .before .before .before .args .bodies .now) (c .before .before .before .before .before .before .before .before .before .before .before .args .p) (c .before .before .before .before .before .before .pass .ensures) (c .before .before .before .before .before .before .before .before .before .before .before .pre .1) (c .before .before .before .before .if1 .left) (c .before .before .assign-at .ensures)
 
 pub vardecl-spec : {M : Type 1} → statement M
 vardecl-spec =
-    tie.close
-    (tie.spec
-    shared-slice-read-name
-    pass-requires
-    add-if1
-    shared-slice-read-if1
-    fields-of-requires
-    push-at-requires
-    same-length
-    returns
-    assign-at-requires
-    same-length-2
-    returns-2)
+    tie.close (tie.spec shared-slice-read-name (λ c κs. search needs) (λ c. search needs)
+    shared-slice-read-if1 (λ c κs. search needs) push-at-requires (λ c. search needs) returns
+    assign-at-requires (λ c. search needs) returns-2)
