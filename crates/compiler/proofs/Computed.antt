@@ -298,6 +298,18 @@ rows =
     instr 0 (Fn 1 []) ∷
     instr 0 Nop ∷
     [])) refl refl ∷
+    -- a function whose Block opens labels: the code behind it stands under a label of its own
+    row 34 0x00080306010101020901020103021500020007011500666f72746d70616201000202
+    (script (FnDecl 1 [] (script (IfStmt (Name 2) noStmts (Else noStmts) ∷ [])) ∷ ExprStmt (Name 2) ∷ []))
+    (program 6 (
+    instr 0 (Fn 1 []) ∷
+    instr 0 (Ldn 0 2) ∷
+    instr 0 (JmpCnd Jmpf 0 2) ∷
+    instr 1 Nop ∷
+    instr 1 (Jmpa 2) ∷
+    instr 2 Nop ∷
+    instr 3 (Ldn 1 2) ∷
+    [])) refl refl ∷
     -- Return with and without a value outside of a function
     row 26 0x000401060102060113000600666f72746d704000000000000000
     (script (ReturnExpr (Literal two) ∷ Return ∷ []))
