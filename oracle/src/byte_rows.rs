@@ -1,11 +1,13 @@
 //! The rows of the computed tables on bytes (`Rows.antt` in proofs/ of opc, tables, vm, report, lower
-//! and boundary): each is answered by the original, or by the oracle's own reader of its bytes.
+//! and boundary, and `Written.antt` of opc): each is answered by the original, or by the oracle's own
+//! reader or writer of its bytes.
 
 use std::collections::HashMap;
 
 use crate::calls;
 use crate::driver::{End, Stop};
 use crate::listing::op_text;
+use crate::program::code_of_text;
 use crate::program_bytes::{self, Code};
 use crate::rows::instr_text;
 use crate::state_bytes::Held;
@@ -296,6 +298,34 @@ pub fn records_of(table: &str) -> Result<usize, String> {
         let instr = expected.strip_prefix("( some ( instr ").ok_or("no instruction")?;
         Ok(found == Some(instr_text(instr)))
     })
+}
+
+/// The buffer of a program, its operations as the listing writes them.
+fn written(ops: &[String]) -> Result<Vec<u8>, String> {
+    let text: String = ops.iter().enumerate().map(|(at, op)| format!("op {at} {op}\n")).collect();
+    Ok(code_of_text(text.as_bytes())?.ok_or("refused")?.bytes())
+}
+
+/// Instructions, each with its entry of the pool and its record, written behind an array that takes up
+/// the entries before its own; and single values, each with its entry, written as an array's item.
+pub fn written_of(table: &str) -> Result<usize, String> {
+    let records = each(&lists(table, "Row")?, table, |words| {
+        let row = words.rest()?;
+        let row = row.strip_prefix("row ( instr ").ok_or("no instruction")?;
+        let (row, record) = row.rsplit_once(' ').ok_or("no record")?;
+        let (instr, entry) = row.rsplit_once(' ').ok_or("no entry")?;
+        let before = vec!["Null"; entry.parse().map_err(|_| "no entry")?].join(",");
+        let program = written(&[format!("0 Stc Arr:[{before}] 0"), instr_text(instr)])?;
+        Ok(program[16..32] == big_endian(16, record)?[..])
+    })?;
+    let items = each(&lists(table, "Item")?, table, |words| {
+        let row = words.rest()?;
+        let row = row.strip_prefix("item ").ok_or("no item")?;
+        let (single, entry) = row.rsplit_once(' ').ok_or("no entry")?;
+        let program = written(&[instr_text(&format!("0 Stc Arr {single} ∷ [] 0"))])?;
+        Ok(program[program_bytes::POOL..][..16] == big_endian(16, entry)?[..])
+    })?;
+    Ok(records + items)
 }
 
 /// The stops by number, from 20 on.

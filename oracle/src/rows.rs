@@ -3,7 +3,9 @@
 
 use std::fs;
 
-use crate::byte_rows::{calls_of, programs_of as buffers_of, records_of, reports_of, states_of};
+use crate::byte_rows::{
+    calls_of, programs_of as buffers_of, records_of, reports_of, states_of, written_of,
+};
 use crate::listing::{listing, state_of_file, STEPS};
 use crate::program::run_text;
 use crate::value_text::NAN;
@@ -18,7 +20,8 @@ pub fn check(crates: &str) -> Result<(), String> {
     let programs = programs_of(&read("engine/proofs/Programs.antt")?)?;
     let lowerings = lowerings_of(&read("compiler/proofs/Computed.antt")?)?;
     let readings = readings_of(&read("ast/proofs/Computed.antt")?)?;
-    let records = records_of(&read("opc/proofs/Rows.antt")?)?;
+    let records = records_of(&read("opc/proofs/Rows.antt")?)?
+        + written_of(&read("opc/proofs/Written.antt")?)?;
     let buffers = buffers_of(&read("tables/proofs/Rows.antt")?)?;
     let states = states_of(&read("vm/proofs/Rows.antt")?)?;
     let reports = reports_of(&read("report/proofs/Rows.antt")?)?;
