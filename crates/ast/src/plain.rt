@@ -27,7 +27,8 @@ fn allowed(under: u64, kind: u64) -> bool
     !absent(kind) & ((!own | (under == 7)) & (!truth | holds_truth(under)))
 }
 
-// One more than the subtrees left before the second child of a 14, or 0.
+// One more than the subtrees left before the second child of a 14 (ArrayMut), or 0. A node behind a leaf has its parent further up, and there what 17 allows is
+// right under every parent but a 14: so `left` counts down the subtrees until that child.
 fn waits(left: u64, kind: u64, count: u64) -> u64
     requires { ⌜ (left ≤ 1048576) × (count < 256) ⌝ }
     ensures { λ r. ⌜ (r ≡ Rule.waits left kind count) × (r ≤ left + 257) ⌝ }
