@@ -147,8 +147,8 @@ no-table (kRight kArrayAccess) h = refl
 no-table (kExpr k) h = refl
 
 module _ {c b : List ℕ} (d place l : ℕ) (f : Bool) (deep : d ≡ 0 → ⊥) (fit : Fit c b) (g : First c b) where
-  abbrev after : List Node
-  after = nodesFrom (drop 2 c) (drop (sizeAt c) b)
+  abbrev nodesBehind : List Node
+  nodesBehind = nodesFrom (drop 2 c) (drop (sizeAt c) b)
 
   abbrev go : ℕ → ℕ → Bool → List Node → Remaining
   go q m h ms = passOver (d - 1) q m h ms
@@ -156,48 +156,48 @@ module _ {c b : List ℕ} (d place l : ℕ) (f : Bool) (deep : d ≡ 0 → ⊥) 
   abbrev thePlan : Plan
   thePlan = planOf (kindOf (getD c 0 0)) (getD c 1 0) (getD b 0 0) l f
 
-  pub pass-first : passOver d place l f (nodesFrom c b) ≡ keptIf (stands place (getD c 0 0)) (inLimits go (kindOf (getD c 0 0)) (getD c 1 0) thePlan after)
+  pub pass-first : passOver d place l f (nodesFrom c b) ≡ keptIf (stands place (getD c 0 0)) (inLimits go (kindOf (getD c 0 0)) (getD c 1 0) thePlan nodesBehind)
   pass-first =
       let e : d ≡ suc (d - 1) = omega arith in
       ap (λ (j : ℕ). passOver j place l f (nodesFrom c b)) e
       ∙ ap (passOver (suc (d - 1)) place l f) (g .nodes)
-      ∙ ap (λ (n : ℕ). keptIf (stands place n) (inLimits go (kindOf (getD c 0 0)) (getD c 1 0) (planOf (kindOf (getD c 0 0)) (getD c 1 0) (field (take (sizeAt c) b) 0) l f) after)) (number-kind (getD c 0 0) (g .least) (g .known))
-      ∙ ap (λ (p : Plan). keptIf (stands place (getD c 0 0)) (inLimits go (kindOf (getD c 0 0)) (getD c 1 0) p after)) (plan-elifs (kindOf (getD c 0 0)) (getD c 1 0) b l f)
+      ∙ ap (λ (n : ℕ). keptIf (stands place n) (inLimits go (kindOf (getD c 0 0)) (getD c 1 0) (planOf (kindOf (getD c 0 0)) (getD c 1 0) (field (take (sizeAt c) b) 0) l f) nodesBehind)) (number-kind (getD c 0 0) (g .least) (g .known))
+      ∙ ap (λ (p : Plan). keptIf (stands place (getD c 0 0)) (inLimits go (kindOf (getD c 0 0)) (getD c 1 0) p nodesBehind)) (plan-elifs (kindOf (getD c 0 0)) (getD c 1 0) b l f)
 
   pub not-there : stands place (getD c 0 0) ≡ false → passOver d place l f (nodesFrom c b) ≡ wrong
-  not-there e = pass-first ∙ ap (λ (t : Bool). keptIf t (inLimits go (kindOf (getD c 0 0)) (getD c 1 0) thePlan after)) e
+  not-there e = pass-first ∙ ap (λ (t : Bool). keptIf t (inLimits go (kindOf (getD c 0 0)) (getD c 1 0) thePlan nodesBehind)) e
 
-  pub begun : (t : Bool) → Agrees c b (keptIf t (left after)) (began t (sizeAt c))
+  pub begun : (t : Bool) → Agrees c b (keptIf t (left nodesBehind)) (began t (sizeAt c))
   begun true = takes (g .two) (g .fits) (fit-rest fit g) refl
   begun false = refuses
 
   module _ (there : stands place (getD c 0 0) ≡ true) {plan : Plan} (ep : plan ≡ thePlan) {s : ℕ} (es : s ≡ sizeAt c) {p : Checked} (eb : p ≡ began (plan .fits) s) where
-    pub begins : Agrees c b (keptIf (plan .fits) (left after)) p
+    pub begins : Agrees c b (keptIf (plan .fits) (left nodesBehind)) p
     begins = rw (eb, es) (begun (plan .fits))
 
     pub starts : (x : Remaining) × Agrees c b x p
-    starts = (keptIf (plan .fits) (left after), begins)
+    starts = (keptIf (plan .fits) (left nodesBehind), begins)
 
-    inner : passOver d place l f (nodesFrom c b) ≡ inLimits go (kindOf (getD c 0 0)) (getD c 1 0) plan after
+    inner : passOver d place l f (nodesFrom c b) ≡ inLimits go (kindOf (getD c 0 0)) (getD c 1 0) plan nodesBehind
     inner =
         pass-first
-        ∙ ap (λ (t : Bool). keptIf t (inLimits go (kindOf (getD c 0 0)) (getD c 1 0) thePlan after)) there
-        ∙ ap (λ (o : Plan). inLimits go (kindOf (getD c 0 0)) (getD c 1 0) o after) (sym ep)
+        ∙ ap (λ (t : Bool). keptIf t (inLimits go (kindOf (getD c 0 0)) (getD c 1 0) thePlan nodesBehind)) there
+        ∙ ap (λ (o : Plan). inLimits go (kindOf (getD c 0 0)) (getD c 1 0) o nodesBehind) (sym ep)
 
     pub table-node : {r : Checked} → getD c 0 0 ≡ 10 → {n : ℕ} → n ≡ getD c 1 0
         → ((x : Remaining) → Agrees c b x p → Agrees c b (then x (λ ns. keyedTimes (λ ms. passOver (d - 1) places.itemBits 0 false ms) 0 n ns)) r) → Agrees c b (passOver d place l f (nodesFrom c b)) r
     table-node {r} e {n} en h =
         subst (λ (z : Remaining). Agrees c b z r)
-        (sym (inner ∙ ap (λ (k : ℕ). inLimits go (kindOf k) (getD c 1 0) plan after) e))
-        (subst (λ (j : ℕ). Agrees c b (then (keptIf (plan .fits) (left after)) (λ ns. keyedTimes (λ ms. passOver (d - 1) places.itemBits 0 false ms) 0 j ns)) r) en (h _ begins))
+        (sym (inner ∙ ap (λ (k : ℕ). inLimits go (kindOf k) (getD c 1 0) plan nodesBehind) e))
+        (subst (λ (j : ℕ). Agrees c b (then (keptIf (plan .fits) (left nodesBehind)) (λ ns. keyedTimes (λ ms. passOver (d - 1) places.itemBits 0 false ms) 0 j ns)) r) en (h _ begins))
 
     pub other-node : {r : Checked} → (getD c 0 0 ≡ 10 → ⊥)
         → ((x : Remaining) → Agrees c b x p → Agrees c b (children (λ q m k ms. passOver (d - 1) q m k ms) plan x) r) → Agrees c b (passOver d place l f (nodesFrom c b)) r
     other-node {r} n h =
         subst (λ (z : Remaining). Agrees c b z r)
         (sym (inner ∙ ap (λ (t : Bool). cond t
-        (then (keptIf (plan .fits) (left after)) (λ ms. keyedTimes (λ ks. go places.itemBits 0 false ks) 0 (getD c 1 0) ms))
-        (children go plan (keptIf (plan .fits) (left after)))) (no-table (kindOf (getD c 0 0)) (λ e. n (sym (number-kind (getD c 0 0) (g .least) (g .known)) ∙ e)))))
+        (then (keptIf (plan .fits) (left nodesBehind)) (λ ms. keyedTimes (λ ks. go places.itemBits 0 false ks) 0 (getD c 1 0) ms))
+        (children go plan (keptIf (plan .fits) (left nodesBehind)))) (no-table (kindOf (getD c 0 0)) (λ e. n (sym (number-kind (getD c 0 0) (g .least) (g .known)) ∙ e)))))
         (h _ begins)
 
 -- ---- the whole

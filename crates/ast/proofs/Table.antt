@@ -9,7 +9,7 @@ use lib.Dec.{T, ltb, eqb, ltb→lt, eqb→eq}
 use lib.ListN.{getD, List·getD-eq-default}
 use borrow.Author.Tests.{ne-eqb}
 use Rattle.ast.specs.Node.{kProgram, kinds, kindOf, Body, nothing, elifs, texts, operator, number64, body, bodySize}
-use Rattle.ast.specs.laws.Tests.{and-left, and-right, entry}
+use Rattle.ast.specs.laws.Tests.{T-left, T-right, entry}
 
 -- the table of body sizes
 abbrev sizes : List ℕ
@@ -23,7 +23,7 @@ sized k h =
     let n = getD sizes k 0 in
     let m = bodySize (body (kindOf k)) in
     let t = entry sizeOk 24 tt k h in
-    (eqb→eq n m (and-left (eqb n m) (ltb n 9) t), ltb→lt n 9 (and-right (eqb n m) (ltb n 9) t))
+    (eqb→eq n m (T-left (eqb n m) (ltb n 9) t), ltb→lt n 9 (T-right (eqb n m) (ltb n 9) t))
 
 pub unknown-size : (k : ℕ) → 24 ≤ k → bodySize (body (kindOf k)) ≡ 0
 unknown-size k h =

@@ -120,17 +120,17 @@ entry-read b small at room lo hi ew ek em =
 
 module _ (x0 x1 x2 x3 x4 x5 x6 x7 k a b c s : ℕ) (h0 : x0 < 256) (h1 : x1 < 256) (h2 : x2 < 256) (h3 : x3 < 256) (h4 : x4 < 256) (h5 : x5 < 256) (h6 : x6 < 256) (h7 : x7 < 256)
     (ok : laneOk k ≡ true) (oa : laneOk a ≡ true) (ob : laneOk b ≡ true) (oc : laneOk c ≡ true) where
-  abbrev all : ℕ
-  all = leValue (x0 ∷ x1 ∷ x2 ∷ x3 ∷ x4 ∷ x5 ∷ x6 ∷ x7 ∷ [])
+  abbrev lanes : ℕ
+  lanes = leValue (x0 ∷ x1 ∷ x2 ∷ x3 ∷ x4 ∷ x5 ∷ x6 ∷ x7 ∷ [])
 
   abbrev mask : ℕ
   mask = leValue (0 ∷ laneMask k ∷ laneMask 3 ∷ 0 ∷ laneMask a ∷ laneMask b ∷ laneMask c ∷ 0 ∷ [])
 
-  abbrev sum : ℕ
-  sum = (all + leValue (0 ∷ laneAdd k ∷ laneAdd 3 ∷ 0 ∷ laneAdd a ∷ laneAdd b ∷ laneAdd c ∷ s ∷ [])) % 18446744073709551616
+  abbrev lanesSum : ℕ
+  lanesSum = (lanes + leValue (0 ∷ laneAdd k ∷ laneAdd 3 ∷ 0 ∷ laneAdd a ∷ laneAdd b ∷ laneAdd c ∷ s ∷ [])) % 18446744073709551616
 
-  abbrev each : Bool
-  each = leb x1 k && (leb x2 3 && (leb x4 a && (leb x5 b && leb x6 c)))
+  abbrev lanesOk : Bool
+  lanesOk = leb x1 k && (leb x2 3 && (leb x4 a && (leb x5 b && leb x6 c)))
 
   abbrev five-all : Bool
   five-all = five x0 x1 x2 x3 x4 x5 x6 x7 (laneMask k) (laneMask 3) (laneMask a) (laneMask b) (laneMask c)
@@ -138,10 +138,10 @@ module _ (x0 x1 x2 x3 x4 x5 x6 x7 k a b c s : ℕ) (h0 : x0 < 256) (h1 : x1 < 25
   abbrev five-sum : Bool
   five-sum = five x0 (x1 + laneAdd k) (x2 + laneAdd 3) x3 (x4 + laneAdd a) (x5 + laneAdd b) (x6 + laneAdd c) ((x7 + s) % 256) (laneMask k) (laneMask 3) (laneMask a) (laneMask b) (laneMask c)
 
-  test : eqb (bitAnd all mask) 0 ≡ five-all
+  test : eqb (bitAnd lanes mask) 0 ≡ five-all
   test = and-five x0 x1 x2 x3 x4 x5 x6 x7 (laneMask k) (laneMask 3) (laneMask a) (laneMask b) (laneMask c) h0 h1 h2 h3 h4 h5 h6 h7 (mask-small k) (mask-small 3) (mask-small a) (mask-small b) (mask-small c)
 
-  sum-test : five-all ≡ true → eqb (bitAnd sum mask) 0 ≡ five-sum
+  sum-test : five-all ≡ true → eqb (bitAnd lanesSum mask) 0 ≡ five-sum
   sum-test e =
       let t = five-split x0 x1 x2 x3 x4 x5 x6 x7 (laneMask k) (laneMask 3) (laneMask a) (laneMask b) (laneMask c) e in
       let g1 = lane-small x1 k h1 (t .0) in
@@ -153,15 +153,15 @@ module _ (x0 x1 x2 x3 x4 x5 x6 x7 k a b c s : ℕ) (h0 : x0 < 256) (h1 : x1 < 25
       ap (λ (v : ℕ). eqb (bitAnd v mask) 0) (sum-eight x0 x1 x2 x3 x4 x5 x6 x7 (laneAdd k) (laneAdd 3) (laneAdd a) (laneAdd b) (laneAdd c) s h0 g1 g2 h3 g4 g5 g6)
       ∙ and-five x0 (x1 + laneAdd k) (x2 + laneAdd 3) x3 (x4 + laneAdd a) (x5 + laneAdd b) (x6 + laneAdd c) ((x7 + s) % 256) (laneMask k) (laneMask 3) (laneMask a) (laneMask b) (laneMask c) h0 g1 g2 h3 g4 g5 g6 g7 (mask-small k) (mask-small 3) (mask-small a) (mask-small b) (mask-small c)
 
-  fits : (eqb (bitAnd all mask) 0 && eqb (bitAnd sum mask) 0) ≡ true → each ≡ true
+  fits : (eqb (bitAnd lanes mask) 0 && eqb (bitAnd lanesSum mask) 0) ≡ true → lanesOk ≡ true
   fits e =
-      let p = and-inv (eqb (bitAnd all mask) 0) (eqb (bitAnd sum mask) 0) e in
+      let p = and-inv (eqb (bitAnd lanes mask) 0) (eqb (bitAnd lanesSum mask) 0) e in
       let q : five-all ≡ true = sym test ∙ p .0 in
       let t = five-split x0 x1 x2 x3 x4 x5 x6 x7 (laneMask k) (laneMask 3) (laneMask a) (laneMask b) (laneMask c) q in
       let u = five-split x0 (x1 + laneAdd k) (x2 + laneAdd 3) x3 (x4 + laneAdd a) (x5 + laneAdd b) (x6 + laneAdd c) ((x7 + s) % 256) (laneMask k) (laneMask 3) (laneMask a) (laneMask b) (laneMask c) (sym (sum-test q) ∙ p .1) in
       and-both (lane-out x1 k h1 ok (t .0) (u .0)) (and-both (lane-out x2 3 h2 refl (t .1) (u .1)) (and-both (lane-out x4 a h4 oa (t .2) (u .2)) (and-both (lane-out x5 b h5 ob (t .3) (u .3)) (lane-out x6 c h6 oc (t .4) (u .4)))))
 
-  unfits : each ≡ true → (eqb (bitAnd all mask) 0 && eqb (bitAnd sum mask) 0) ≡ true
+  unfits : lanesOk ≡ true → (eqb (bitAnd lanes mask) 0 && eqb (bitAnd lanesSum mask) 0) ≡ true
   unfits e =
       let r = split5 (leb x1 k) (leb x2 3) (leb x4 a) (leb x5 b) (leb x6 c) e in
       let p1 = lane-in x1 k h1 ok (r .0) in
@@ -173,8 +173,8 @@ module _ (x0 x1 x2 x3 x4 x5 x6 x7 k a b c s : ℕ) (h0 : x0 < 256) (h1 : x1 < 25
       let u : five-sum ≡ true = and-both (p1 .1) (and-both (p2 .1) (and-both (p4 .1) (and-both (p5 .1) (p6 .1)))) in
       and-both (test ∙ t) (sum-test t ∙ u)
 
-  pub fields-fit : (eqb (bitAnd all mask) 0 && eqb (bitAnd sum mask) 0) ≡ each
-  fields-fit = iff (eqb (bitAnd all mask) 0 && eqb (bitAnd sum mask) 0) each fits unfits
+  pub fields-fit : (eqb (bitAnd lanes mask) 0 && eqb (bitAnd lanesSum mask) 0) ≡ lanesOk
+  fields-fit = iff (eqb (bitAnd lanes mask) 0 && eqb (bitAnd lanesSum mask) 0) lanesOk fits unfits
 
 -- ---- a record
 
@@ -207,8 +207,8 @@ module _ (b : List ℕ) (small : (i : ℕ) → getD b i 0 < 256) (at : ℕ) (roo
   whole : fitting (getD b at 0) (getD b (at + 1) 0) (beValue (part b (at + 2) 2)) (getD b (at + 4) 0) (getD b (at + 5) 0) (getD b (at + 6) 0) (getD b (at + 7) 0) (beValue (part b (at + 8) 8)) ≡ recordFits (fieldsOf (part b at 16))
   whole = rw (first-byte b at, byte-of b at 1 (omega arith), byte-of b at 4 (omega arith), byte-of b at 5 (omega arith), byte-of b at 6 (omega arith), byte-of b at 7 (omega arith), word-of b at 2 2 (omega arith), word-of b at 8 8 (omega arith))
 
-  module _ {h w mask add word sum : ℕ} {literal : Bool} (el : (mask ∷ add ∷ word ∷ []) ≡ limitWords lim) (eh : h ≡ leValue (eight b at)) (ew : w ≡ leValue (eight b (at + 8))) (es : sum ≡ (h + add) % 18446744073709551616)
-      (et : literal ≡ ((((eqb (bitAnd h mask) 0 && eqb (bitAnd sum mask) 0) && leb (add / 72057594037927936) (h / 256 % 256)) && eqb (bitAnd w word) 0) && (not (isLiteral (h % 256)) || (eqb (bitAnd w (leValue (singleMask (h / 256 % 256)))) 0 && (not (eqb (h / 256 % 256) 6) || eqb (h / 72057594037927936) 0))))) where
+  module _ {h w mask add word lanesSum : ℕ} {literal : Bool} (el : (mask ∷ add ∷ word ∷ []) ≡ limitWords lim) (eh : h ≡ leValue (eight b at)) (ew : w ≡ leValue (eight b (at + 8))) (es : lanesSum ≡ (h + add) % 18446744073709551616)
+      (et : literal ≡ ((((eqb (bitAnd h mask) 0 && eqb (bitAnd lanesSum mask) 0) && leb (add / 72057594037927936) (h / 256 % 256)) && eqb (bitAnd w word) 0) && (not (isLiteral (h % 256)) || (eqb (bitAnd w (leValue (singleMask (h / 256 % 256)))) 0 && (not (eqb (h / 256 % 256) 6) || eqb (h / 72057594037927936) 0))))) where
     em : mask ≡ leValue (masks lim)
     em = ap (λ (l : List ℕ). getD l 0 0) el
 
@@ -238,7 +238,7 @@ module _ (b : List ℕ) (small : (i : ℕ) → getD b i 0 < 256) (at : ℕ) (roo
         let f = fields-fit (getD b at 0) (getD b (at + 1) 0) (getD b (at + 2) 0) (getD b (at + 3) 0) (getD b (at + 4) 0) (getD b (at + 5) 0) (getD b (at + 6) 0) (getD b (at + 7) 0) (lim / 4294967296 % 256) (lim % 256) (lim / 256 % 256) (lim / 65536 % 256) (lim / 16777216 % 256)
         (small at) (small (at + 1)) (small (at + 2)) (small (at + 3)) (small (at + 4)) (small (at + 5)) (small (at + 6)) (small (at + 7)) (q .0) (q .1) (q .2) (q .3) in
         et
-        ∙ and-assoc ((eqb (bitAnd h mask) 0 && eqb (bitAnd sum mask) 0) && leb (add / 72057594037927936) (h / 256 % 256)) (eqb (bitAnd w word) 0) _
+        ∙ and-assoc ((eqb (bitAnd h mask) 0 && eqb (bitAnd lanesSum mask) 0) && leb (add / 72057594037927936) (h / 256 % 256)) (eqb (bitAnd w word) 0) _
         ∙ ap₂ (λ (x y : Bool). x && y)
         (ap₂ (λ (x y : Bool). x && y) (ap₂ (λ (x y : Bool). x && y) (ap₂ (λ (x y : ℕ). eqb (bitAnd x y) 0) eh em) (ap₂ (λ (x y : ℕ). eqb (bitAnd x y) 0) (es ∙ ap₂ (λ (x y : ℕ). (x + y) % 18446744073709551616) eh ea) em) ∙ f) (ap₂ leb least-is kind-is))
         (ap₂ (λ (x y : Bool). x && y) (ap₂ (λ (x y : ℕ). eqb (bitAnd x y) 0) ew (ap (λ (l : List ℕ). getD l 2 0) el) ∙ word-fits b small (at + 8) (omega arith) (lim / 1099511627776) (q .4)) literal-is)

@@ -22,7 +22,7 @@ use Rattle.ast.specs.Flat.{binTokNumber, unTokNumber, flatExpr, stmtCoun
 use Rattle.ast.specs.Limits.{depthExpr, depthRhs, depthSource, depthStmt, depth, numbersFit}
 use Rattle.ast.specs.laws.Pieces.{Piece, join, View, isNone, isMore, Listing, pieceLit, pieceName, pieceNames, pieceExpr, pieceRhs, pieceExprs, pieceItems, pieceLits}
 use Rattle.ast.specs.laws.Pieces.{pieceKeyed, pieceSource, pieceStmt, pieceStmts, pieceBlock, pieceArm, pieceArms, pieceRest, lits, names, exprs, items, stmts, arms, piece-rest, elif-rest, else-rest, isRest, RestView, view-rest}
-use Rattle.ast.specs.laws.Tests.{and-left, and-right}
+use Rattle.ast.specs.laws.Tests.{T-left, T-right}
 
 -- ---- a piece within the limits
 
@@ -35,16 +35,16 @@ FitPiece a d = Fit (a .deep) (a .test) d
 
 module _ {d : ℕ} where
   fit-left : (a b : Piece) → FitPiece (join a b) d → FitPiece a d
-  fit-left a b f = let h = f .within in record { within = omega arith; holds = and-left (a .test) (b .test) (f .holds) }
+  fit-left a b f = let h = f .within in record { within = omega arith; holds = T-left (a .test) (b .test) (f .holds) }
 
   fit-right : (a b : Piece) → FitPiece (join a b) d → FitPiece b d
-  fit-right a b f = let h = f .within in record { within = omega arith; holds = and-right (a .test) (b .test) (f .holds) }
+  fit-right a b f = let h = f .within in record { within = omega arith; holds = T-right (a .test) (b .test) (f .holds) }
 
   fit-as : {a b : Piece} → a ≡ b → FitPiece a d → FitPiece b d
   fit-as e f = subst (λ (x : Piece). FitPiece x d) e f
 
   fit-under : (v : Bool) (a : Piece) → Fit (suc (a .deep)) (v && a .test) (suc d) → FitPiece a d
-  fit-under v a f = let h = f .within in record { within = omega arith; holds = and-right v (a .test) (f .holds) }
+  fit-under v a f = let h = f .within in record { within = omega arith; holds = T-right v (a .test) (f .holds) }
 
 -- f reads a from ns, whatever follows
 pub record Read {A : Type 0} (f : List Node → Parsed A) (ns : List Node) (a : A) : Type 0 where

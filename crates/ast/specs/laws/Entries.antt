@@ -20,7 +20,7 @@ use Rattle.ast.specs.Flat.{flatLit, flatLits, flatNames, flatExpr, flatR
 use Rattle.ast.specs.Limits.{everyLit, everyLits, everyName, everyExpr, everyRhs, everyExprs, everyItems, everySource, everyStmt, every, everyRest}
 use Rattle.ast.specs.laws.Complete.{bin-number, un-number}
 use Rattle.ast.specs.laws.Kinds.{kind-number, number-kind}
-use Rattle.ast.specs.laws.Tests.{and-left, and-right, and-both, between-le}
+use Rattle.ast.specs.laws.Tests.{T-left, T-right, T-both, between-le}
 use Rattle.ast.specs.laws.Sound.{Texts, done, text, Fits, fits-nothing, fits-elifs, fits-texts, fits-operator, fits-binary64, Good}
 use Rattle.lent.specs.Lists.{sum, all}
 
@@ -53,10 +53,10 @@ module _ (p q : ℕ → Bool) where
   empty = record { each = λ h. none }
 
   join : {ns ms : List Node} {t u : Bool} → Holds ns t → Holds ms u → Holds (ns ++ ms) (t && u)
-  join {t = t} {u = u} x y = record { each = λ h. each-append (x .each (and-left t u h)) (y .each (and-right t u h)) }
+  join {t = t} {u = u} x y = record { each = λ h. each-append (x .each (T-left t u h)) (y .each (T-right t u h)) }
 
   over : {n : Node} {ns : List Node} {t : Bool} (v : Bool) → (T v → M n) → Holds ns t → Holds (n ∷ ns) (v && t)
-  over {t = t} v m x = record { each = λ h. more (m (and-left v t h)) (x .each (and-right v t h)) }
+  over {t = t} v m x = record { each = λ h. more (m (T-left v t h)) (x .each (T-right v t h)) }
 
   leaf : {n : Node} (v : Bool) → (T v → M n) → Holds (n ∷ []) v
   leaf v m = record { each = λ h. more (m h) none }
@@ -113,7 +113,7 @@ module _ (p q : ℕ → Bool) where
     made-stmt : (t : Stmt) → Holds (flatStmt t) (everyStmt p q t)
     made-stmt (Block b) = block b (made-stmts b)
     made-stmt (IfStmt c b k) = over true (λ h. made-elifs (omega arith)) (join (made-expr c) (join (block b (made-stmts b)) (made-rest k)))
-    made-stmt (ForStmt i v s b) = over (p i && p v) (λ h. made-texts (text (and-left (p i) (p v) h) (text (and-right (p i) (p v) h) done))) (join (made-source s) (block b (made-stmts b)))
+    made-stmt (ForStmt i v s b) = over (p i && p v) (λ h. made-texts (text (T-left (p i) (p v) h) (text (T-right (p i) (p v) h) done))) (join (made-source s) (block b (made-stmts b)))
     made-stmt Return = leaf true (λ h. made-nothing)
     made-stmt (ReturnExpr e) = over true (λ h. made-nothing) (made-expr e)
     made-stmt (ExprStmt e) = over true (λ h. made-nothing) (made-expr e)
@@ -164,7 +164,7 @@ length-entryBytes (node k c b ∷ ns) = let e = length-entryBytes ns in omega ar
 
 pub kinds-entryBytes : (ns : List Node) → T (all (between 1 23) (firsts (entryBytes ns)))
 kinds-entryBytes [] = tt
-kinds-entryBytes (node k c b ∷ ns) = and-both (between 1 23 (numberOf k)) (all (between 1 23) (firsts (entryBytes ns))) (kind-number k .1) (kinds-entryBytes ns)
+kinds-entryBytes (node k c b ∷ ns) = T-both (between 1 23 (numberOf k)) (all (between 1 23) (firsts (entryBytes ns))) (kind-number k .1) (kinds-entryBytes ns)
 
 -- ---- what was read is written: n entries of two bytes
 
@@ -173,10 +173,10 @@ entries-nodes n [] bs l h = refl
 entries-nodes n (k ∷ []) bs l h = absurd (omega arith)
 entries-nodes n (k ∷ (c ∷ es)) bs l h =
     let s = bodySize (body (kindOf k)) in
-    let t = between-le 1 23 k (and-left (between 1 23 k) (all (between 1 23) (firsts es)) h) in
+    let t = between-le 1 23 k (T-left (between 1 23 k) (all (between 1 23) (firsts es)) h) in
     rw (
       number-kind k (t .0) (omega arith),
-      entries-nodes (n - 1) es (drop s bs) (omega arith) (and-right (between 1 23 k) (all (between 1 23) (firsts es)) h),
+      entries-nodes (n - 1) es (drop s bs) (omega arith) (T-right (between 1 23 k) (all (between 1 23) (firsts es)) h),
     )
 
 pub bodies-nodes : (n : ℕ) (es bs : List ℕ) → length es ≡ 2 * n → bodyBytes (nodesFrom es bs) ≡ take (bodiesOf es) bs
@@ -194,7 +194,7 @@ module _ (p q : ℕ → Bool) (t : ℕ) (ps : (x : ℕ) → x < t → T (p x)) (
   texts-of zero (x ∷ b) l h = absurd (omega arith)
   texts-of (suc n) [] l h = absurd (omega arith)
   texts-of (suc n) (x ∷ b) l h =
-      text (ps x (ltb→lt x t (and-left (ltb x t) (all (λ x. ltb x t) b) h))) (texts-of n b (omega arith) (and-right (ltb x t) (all (λ x. ltb x t) b) h))
+      text (ps x (ltb→lt x t (T-left (ltb x t) (all (λ x. ltb x t) b) h))) (texts-of n b (omega arith) (T-right (ltb x t) (all (λ x. ltb x t) b) h))
 
   fits-of : (B : Body) (b : List ℕ) → length b ≡ bodySize B → AreBytes b → T (fieldOk t B b) → Fits p q B b
   fits-of nothing [] l a h = fits-nothing
@@ -205,7 +205,7 @@ module _ (p q : ℕ → Bool) (t : ℕ) (ps : (x : ℕ) → x < t → T (p x)) (
   fits-of (texts n) b l a h = fits-texts (texts-of n b l h)
   fits-of (operator n) [] l a h = absurd (omega arith)
   fits-of (operator n) (x ∷ []) l a h =
-      let i = between-le 1 n x (and-left (between 1 n x) true h) in
+      let i = between-le 1 n x (T-left (between 1 n x) true h) in
       fits-operator (i .0) (i .1)
   fits-of (operator n) (x ∷ (y ∷ b)) l a h = absurd (omega arith)
   fits-of number64 b l a h =
@@ -219,5 +219,5 @@ module _ (p q : ℕ → Bool) (t : ℕ) (ps : (x : ℕ) → x < t → T (p x)) (
       let B = body (kindOf k) in
       let s = bodySize B in
       let ns = nodesFrom es (drop s bs) in
-      more (fits-of B (take s bs) (length-take-le s bs (omega arith)) (each-take s a) (and-left (fieldOk t B (take s bs)) (all (nodeOk t) ns) h))
-      (good-nodes es (drop s bs) (each-drop s a) (simp length-drop (omega arith)) (and-right (fieldOk t B (take s bs)) (all (nodeOk t) ns) h))
+      more (fits-of B (take s bs) (length-take-le s bs (omega arith)) (each-take s a) (T-left (fieldOk t B (take s bs)) (all (nodeOk t) ns) h))
+      (good-nodes es (drop s bs) (each-drop s a) (simp length-drop (omega arith)) (T-right (fieldOk t B (take s bs)) (all (nodeOk t) ns) h))

@@ -21,7 +21,7 @@ use Rattle.ast.specs.Flat.{flat, entryBytes, bodyBytes}
 use Rattle.ast.specs.Limits.{depth, textsBelow, numbersFit}
 use Rattle.ast.specs.TreeFile.{fileOf, TextsFit, childrenByte, TreeFits}
 use Rattle.ast.specs.laws.Kinds.{kind-number}
-use Rattle.ast.specs.laws.Tests.{and-left, and-right, and-both, between-le, le-between, all-each, all-map}
+use Rattle.ast.specs.laws.Tests.{T-left, T-right, T-both, between-le, le-between, all-each, all-map}
 use Rattle.ast.specs.laws.Sound.{Texts, done, text}
 use Rattle.ast.specs.laws.Complete.{flat-parse}
 use Rattle.ast.specs.laws.Entries.{Made, made-nothing, made-elifs, made-texts, made-operator, made-number, MadeNode, flat-made, nodes-bytes, length-bodyBytes, length-entryBytes, kinds-entryBytes}
@@ -49,11 +49,11 @@ length-concat (s ∷ l) = let e = length-concat l in simp length-append (omega a
 
 -- ---- the parts of a file that is put together in document 01's order
 
-abbrev joined : (n k : ℕ) → (ls es ts bs : List ℕ) → List ℕ
-joined n k ls es ts bs = beBytes 2 n ++ (k ∷ (ls ++ (es ++ (ts ++ bs))))
+abbrev fileBytes : (n k : ℕ) → (ls es ts bs : List ℕ) → List ℕ
+fileBytes n k ls es ts bs = beBytes 2 n ++ (k ∷ (ls ++ (es ++ (ts ++ bs))))
 
-joined-same : {n n′ k k′ : ℕ} {ls ls′ es es′ ts ts′ bs bs′ : List ℕ} → n ≡ n′ → k ≡ k′ → ls ≡ ls′ → es ≡ es′ → ts ≡ ts′ → bs ≡ bs′ → joined n k ls es ts bs ≡ joined n′ k′ ls′ es′ ts′ bs′
-joined-same a b c d e g = rw (a, b, c, d, e, g)
+file-same : {n n′ k k′ : ℕ} {ls ls′ es es′ ts ts′ bs bs′ : List ℕ} → n ≡ n′ → k ≡ k′ → ls ≡ ls′ → es ≡ es′ → ts ≡ ts′ → bs ≡ bs′ → fileBytes n k ls es ts bs ≡ fileBytes n′ k′ ls′ es′ ts′ bs′
+file-same a b c d e g = rw (a, b, c, d, e, g)
 
 record Parts (n : ℕ) (ls es bs : List ℕ) (f rest : List ℕ) : Type 0 where
   pub count : nodeCount f ≡ n
@@ -63,9 +63,9 @@ record Parts (n : ℕ) (ls es bs : List ℕ) (f rest : List ℕ) : Type 0 where
   pub bodies : nodeBodies f ≡ bs
   pub size : length f ≡ contentsSize f + (sum ls + length bs)
 
-parts : (n k : ℕ) (ls es ts bs : List ℕ) → n < 65536 → length ls ≡ k → length es ≡ 2 * n → sum ls ≡ length ts → Parts n ls es bs (joined n k ls es ts bs) (ts ++ bs)
+parts : (n k : ℕ) (ls es ts bs : List ℕ) → n < 65536 → length ls ≡ k → length es ≡ 2 * n → sum ls ≡ length ts → Parts n ls es bs (fileBytes n k ls es ts bs) (ts ++ bs)
 parts n k ls es ts bs small h i j =
-    let f = joined n k ls es ts bs in
+    let f = fileBytes n k ls es ts bs in
     let c : nodeCount f ≡ n = beValue-beBytes 2 n small in
     let l : lengths f ≡ ls = take-at ls (es ++ (ts ++ bs)) k h in
     let d : drop (3 + k) f ≡ es ++ (ts ++ bs) = sym (drop-drop k 3 f) ∙ drop-at ls (es ++ (ts ++ bs)) k h in
@@ -81,7 +81,7 @@ parts n k ls es ts bs small h i j =
 
 -- a file of bytes is put together so
 split : (f : List ℕ) → AreBytes f → contentsSize f ≤ length f → 3 ≤ length f
-    → f ≡ joined (nodeCount f) (textCount f) (lengths f) (entries f) (take (sum (lengths f)) (drop (contentsSize f) f)) (nodeBodies f)
+    → f ≡ fileBytes (nodeCount f) (textCount f) (lengths f) (entries f) (take (sum (lengths f)) (drop (contentsSize f) f)) (nodeBodies f)
 split f a l h =
     let m : length (part f 0 2) ≡ 2 = length-part f 0 2 (omega arith) in
     let n : beBytes 2 (nodeCount f) ≡ take 2 f = rw m at (beBytes-beValue (each-part 0 2 a)) in
@@ -100,18 +100,18 @@ split f a l h =
 module _ (n : ℕ) where
   texts-pass : {m : ℕ} {b : List ℕ} → Texts (λ x. ltb x n) m b → T (all (λ x. ltb x n) b)
   texts-pass done = tt
-  texts-pass (text {x = x} {b = b} h k) = and-both (ltb x n) (all (λ x. ltb x n) b) h (texts-pass k)
+  texts-pass (text {x = x} {b = b} h k) = T-both (ltb x n) (all (λ x. ltb x n) b) h (texts-pass k)
 
   field-pass : {q : ℕ → Bool} {B : Body} {c : ℕ} {b : List ℕ} → Made (λ x. ltb x n) q B c b → T (fieldOk n B b)
   field-pass made-nothing = tt
   field-pass (made-elifs h) = tt
   field-pass (made-texts h) = texts-pass h
-  field-pass (made-operator {n = m} {o = o} l h) = and-both (between 1 m o) true h tt
+  field-pass (made-operator {n = m} {o = o} l h) = T-both (between 1 m o) true h tt
   field-pass (made-number v h) = tt
 
   fields-pass : (q : ℕ → Bool) (ns : List Node) → Each (MadeNode (λ x. ltb x n) q) ns → T (all (nodeOk n) ns)
   fields-pass q [] none = tt
-  fields-pass q (node k c b ∷ ns) (more h g) = and-both (fieldOk n (body k) b) (all (nodeOk n) ns) (field-pass h) (fields-pass q ns g)
+  fields-pass q (node k c b ∷ ns) (more h g) = T-both (fieldOk n (body k) b) (all (nodeOk n) ns) (field-pass h) (fields-pass q ns g)
 
   texts-bytes : {m : ℕ} {b : List ℕ} → n ≤ 64 → Texts (λ x. ltb x n) m b → AreBytes b
   texts-bytes few done = none
@@ -127,29 +127,29 @@ module _ (n : ℕ) where
   bodies-bytes : (q : ℕ → Bool) (ns : List Node) → n ≤ 64 → T (all childrenByte ns) → Each (MadeNode (λ x. ltb x n) q) ns → AreBytes (bodyBytes ns)
   bodies-bytes q [] few h none = none
   bodies-bytes q (node k c b ∷ ns) few h (more m g) =
-      each-append (field-bytes few (ltb→lt c 256 (and-left (ltb c 256) (all childrenByte ns) h)) m) (bodies-bytes q ns few (and-right (ltb c 256) (all childrenByte ns) h) g)
+      each-append (field-bytes few (ltb→lt c 256 (T-left (ltb c 256) (all childrenByte ns) h)) m) (bodies-bytes q ns few (T-right (ltb c 256) (all childrenByte ns) h) g)
 
 entries-bytes : (ns : List Node) → T (all childrenByte ns) → AreBytes (entryBytes ns)
 entries-bytes [] h = none
 entries-bytes (node k c b ∷ ns) h =
     let l = between-le 1 23 (numberOf k) (kind-number k .1) in
-    more {a = numberOf k} (omega arith) (more (ltb→lt c 256 (and-left (ltb c 256) (all childrenByte ns) h)) (entries-bytes ns (and-right (ltb c 256) (all childrenByte ns) h)))
+    more {a = numberOf k} (omega arith) (more (ltb→lt c 256 (T-left (ltb c 256) (all childrenByte ns) h)) (entries-bytes ns (T-right (ltb c 256) (all childrenByte ns) h)))
 
 bytes-entries : (ns : List Node) → AreBytes (entryBytes ns) → T (all childrenByte ns)
 bytes-entries [] none = tt
-bytes-entries (node k c b ∷ ns) (more i (more j a)) = and-both (ltb c 256) (all childrenByte ns) (lt→ltb c 256 j) (bytes-entries ns a)
+bytes-entries (node k c b ∷ ns) (more i (more j a)) = T-both (ltb c 256) (all childrenByte ns) (lt→ltb c 256 j) (bytes-entries ns a)
 
 text-bytes : (l : List (List ℕ)) → T (all (all (between 32 126)) l) → AreBytes (concat l)
 text-bytes [] h = none
 text-bytes (s ∷ l) h =
-    each-append (all-each (between 32 126) (λ i u. let w = between-le 32 126 i u in omega arith) s (and-left (all (between 32 126) s) (all (all (between 32 126)) l) h))
-    (text-bytes l (and-right (all (between 32 126) s) (all (all (between 32 126)) l) h))
+    each-append (all-each (between 32 126) (λ i u. let w = between-le 32 126 i u in omega arith) s (T-left (all (between 32 126) s) (all (all (between 32 126)) l) h))
+    (text-bytes l (T-right (all (between 32 126) s) (all (all (between 32 126)) l) h))
 
 length-bytes : (l : List (List ℕ)) → T (all (λ s. leb (length s) 40) l) → AreBytes (map length l)
 length-bytes [] h = none
 length-bytes (s ∷ l) h =
-    let u = leb→le (length s) 40 (and-left (leb (length s) 40) (all (λ s. leb (length s) 40) l) h) in
-    more {a = length s} (omega arith) (length-bytes l (and-right (leb (length s) 40) (all (λ s. leb (length s) 40) l) h))
+    let u = leb→le (length s) 40 (T-left (leb (length s) 40) (all (λ s. leb (length s) 40) l) h) in
+    more {a = length s} (omega arith) (length-bytes l (T-right (leb (length s) 40) (all (λ s. leb (length s) 40) l) h))
 
 some-texts : (l : List (List ℕ)) → T (ordered l) → 1 ≤ length l
 some-texts [] h = absurd h
@@ -191,12 +191,12 @@ module _ (texts : List (List ℕ)) (t : Stmts) (x : TextsFit texts) (y : TreeFit
       let k = some-texts texts (x .inOrder) in
       record {
         long = le→leb 3 (length bytes) (omega arith);
-        counts = and-both (between 1 1024 (nodeCount bytes)) (between 1 64 (textCount bytes)) (rw c (le-between 1 1024 (length ns) (omega arith) m)) (le-between 1 64 (length texts) k l);
+        counts = T-both (between 1 1024 (nodeCount bytes)) (between 1 64 (textCount bytes)) (rw c (le-between 1 1024 (length ns) (omega arith) m)) (le-between 1 64 (length texts) k l);
         inside = le→leb (contentsSize bytes) (length bytes) (omega arith);
         kinds = rw (cuts .contents) (kinds-entryBytes ns);
         short = rw (cuts .texts, all-map (λ n. leb n 40) length texts) (x .short);
         whole = rw s (eqb-refl (contentsSize bytes + bodiesSize bytes));
-        texts = rw file-texts (and-both (all (all (between 32 126)) texts) (ordered texts) (x .printable) (x .inOrder));
+        texts = rw file-texts (T-both (all (all (between 32 126)) texts) (ordered texts) (x .printable) (x .inOrder));
         fields = rw file-nodes (fields-pass (length texts) (λ v. true) ns made);
       }
 
@@ -236,7 +236,7 @@ module _ (f : List ℕ) (t : Stmts) (a : AreBytes f) (e : readTree f ≡ Tree t)
   file-read =
       let h = inside in
       let u = split f a (omega arith) (leb→le 3 (length f) (checks .long)) in
-      joined-same (known .count) count-read lengths-read (sym (known .contents)) (concat-cut (lengths f) (drop (contentsSize f) f)) (sym (known .bodies)) ∙ sym u
+      file-same (known .count) count-read lengths-read (sym (known .contents)) (concat-cut (lengths f) (drop (contentsSize f) f)) (sym (known .bodies)) ∙ sym u
 
   pub texts-read : TextsFit (textList f)
   texts-read =
@@ -245,8 +245,8 @@ module _ (f : List ℕ) (t : Stmts) (a : AreBytes f) (e : readTree f ≡ Tree t)
       record {
         few = omega arith;
         short = rw (← all-map (λ n. leb n 40) length (textList f), lengths-read) (checks .short);
-        printable = and-left (all (all (between 32 126)) (textList f)) (ordered (textList f)) (checks .texts);
-        inOrder = and-right (all (all (between 32 126)) (textList f)) (ordered (textList f)) (checks .texts);
+        printable = T-left (all (all (between 32 126)) (textList f)) (ordered (textList f)) (checks .texts);
+        inOrder = T-right (all (all (between 32 126)) (textList f)) (ordered (textList f)) (checks .texts);
       }
 
   pub tree-read : TreeFits (length (textList f)) t

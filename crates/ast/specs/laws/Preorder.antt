@@ -27,8 +27,8 @@ scan-entries (node k c b ∷ ns) u w = ap (λ (t : Bool). allowed u (numberOf k)
 
 -- ---- subtrees left before the second child of a 14
 
-abbrev after : ℕ → ℕ
-after w = cond (eqb w 1) 14 17
+abbrev afterNode : ℕ → ℕ
+afterNode w = cond (eqb w 1) 14 17
 
 more-waits : (w n : ℕ) → cond (leb (suc (suc w)) 1) 0 n ≡ n
 more-waits w n = rw (lt-leb (suc (suc w)) 1 (omega arith))
@@ -48,12 +48,12 @@ two-waits zero = refl
 two-waits (suc zero) = refl
 two-waits (suc (suc w)) = omega (arith, more-waits w ((suc (suc w) + 2) - 1))
 
-operand : (w : ℕ) → after (cond (leb w 1) 0 ((w + 2) - 1) - 1) ≡ 17
+operand : (w : ℕ) → afterNode (cond (leb w 1) 0 ((w + 2) - 1) - 1) ≡ 17
 operand zero = refl
 operand (suc zero) = refl
 operand (suc (suc w)) =
     let e : cond (leb (suc (suc w)) 1) 0 ((suc (suc w) + 2) - 1) - 1 ≡ suc (suc w) = omega (arith, more-waits w ((suc (suc w) + 2) - 1)) in
-    ap (λ (x : ℕ). after x) e ∙ rw (ne-eqb (suc (suc w)) 1 (λ h. omega arith))
+    ap (λ (x : ℕ). afterNode x) e ∙ rw (ne-eqb (suc (suc w)) 1 (λ h. omega arith))
 
 -- ---- expressions, but for 14 and 16 under 7
 
@@ -68,31 +68,31 @@ truth false e = refl
 barred : (t y : Bool) → t ≡ false → ((t && true) && y) ≡ false
 barred t y e = rw e
 
-leaf : (w : ℕ) (ms : List Node) → nodesScan (after (cond (leb w 1) 0 ((w + 0) - 1))) (cond (leb w 1) 0 ((w + 0) - 1)) ms ≡ nodesScan (after (w - 1)) (w - 1) ms
-leaf w ms = ap (λ (x : ℕ). nodesScan (after x) x ms) (leaf-waits w)
+leaf : (w : ℕ) (ms : List Node) → nodesScan (afterNode (cond (leb w 1) 0 ((w + 0) - 1))) (cond (leb w 1) 0 ((w + 0) - 1)) ms ≡ nodesScan (afterNode (w - 1)) (w - 1) ms
+leaf w ms = ap (λ (x : ℕ). nodesScan (afterNode x) x ms) (leaf-waits w)
 
 scan-expr : (e : Expr) (u w : ℕ) (ms : List Node) → eqb u 7 ≡ false
-    → nodesScan u w (flatExpr e ++ ms) ≡ (cond (holdsTruth u) (orTruth e (plainExpr e)) (plainExpr e) && nodesScan (after (w - 1)) (w - 1) ms)
-scan-expr (Literal (Val b)) u w ms n = plainly (holdsTruth u) true (nodesScan (after (w - 1)) (w - 1) ms) (leaf w ms)
-scan-expr (Literal (Text t)) u w ms n = plainly (holdsTruth u) true (nodesScan (after (w - 1)) (w - 1) ms) (leaf w ms)
+    → nodesScan u w (flatExpr e ++ ms) ≡ (cond (holdsTruth u) (orTruth e (plainExpr e)) (plainExpr e) && nodesScan (afterNode (w - 1)) (w - 1) ms)
+scan-expr (Literal (Val b)) u w ms n = plainly (holdsTruth u) true (nodesScan (afterNode (w - 1)) (w - 1) ms) (leaf w ms)
+scan-expr (Literal (Text t)) u w ms n = plainly (holdsTruth u) true (nodesScan (afterNode (w - 1)) (w - 1) ms) (leaf w ms)
 scan-expr (Literal (Truth true)) u w ms n = truth (holdsTruth u) (leaf w ms)
 scan-expr (Literal (Truth false)) u w ms n = truth (holdsTruth u) (leaf w ms)
-scan-expr (Name x) u w ms n = plainly (holdsTruth u) true (nodesScan (after (w - 1)) (w - 1) ms) (leaf w ms)
+scan-expr (Name x) u w ms n = plainly (holdsTruth u) true (nodesScan (afterNode (w - 1)) (w - 1) ms) (leaf w ms)
 scan-expr (BinaryExpr t a b) u w ms n =
     let v : ℕ = cond (leb w 1) 0 ((w + 2) - 1) in
     let p : Bool = orTruth a (plainExpr a) in
     let q : Bool = orTruth b (plainExpr b) in
-    plainly (holdsTruth u) (p && q) (nodesScan (after (w - 1)) (w - 1) ms)
+    plainly (holdsTruth u) (p && q) (nodesScan (afterNode (w - 1)) (w - 1) ms)
     (ap (λ (l : List Node). nodesScan 17 v l) (append-assoc (flatExpr a) (flatExpr b) ms)
     ∙ scan-expr a 17 v (flatExpr b ++ ms) refl
-    ∙ ap (λ (t : Bool). p && t) (ap (λ (x : ℕ). nodesScan x (v - 1) (flatExpr b ++ ms)) (operand w) ∙ scan-expr b 17 (v - 1) ms refl ∙ ap (λ (x : ℕ). q && nodesScan (after x) x ms) (two-waits w))
-    ∙ sym (and-assoc p q (nodesScan (after (w - 1)) (w - 1) ms)))
+    ∙ ap (λ (t : Bool). p && t) (ap (λ (x : ℕ). nodesScan x (v - 1) (flatExpr b ++ ms)) (operand w) ∙ scan-expr b 17 (v - 1) ms refl ∙ ap (λ (x : ℕ). q && nodesScan (afterNode x) x ms) (two-waits w))
+    ∙ sym (and-assoc p q (nodesScan (afterNode (w - 1)) (w - 1) ms)))
 scan-expr (UnaryExpr t a) u w ms n =
     let p : Bool = orTruth a (plainExpr a) in
-    plainly (holdsTruth u) p (nodesScan (after (w - 1)) (w - 1) ms) (scan-expr a 18 (cond (leb w 1) 0 ((w + 1) - 1)) ms refl ∙ ap (λ (x : ℕ). p && nodesScan (after x) x ms) (one-waits w))
-scan-expr (VarAssign x r) u w ms n = plainly (holdsTruth u) false (nodesScan (after (w - 1)) (w - 1) ms) (barred (eqb u 7) _ n)
-scan-expr (ArrayMut x i v) u w ms n = plainly (holdsTruth u) false (nodesScan (after (w - 1)) (w - 1) ms) (barred (eqb u 7) _ n)
-scan-expr (FnCall f ps) u w ms n = plainly (holdsTruth u) false (nodesScan (after (w - 1)) (w - 1) ms) refl
+    plainly (holdsTruth u) p (nodesScan (afterNode (w - 1)) (w - 1) ms) (scan-expr a 18 (cond (leb w 1) 0 ((w + 1) - 1)) ms refl ∙ ap (λ (x : ℕ). p && nodesScan (afterNode x) x ms) (one-waits w))
+scan-expr (VarAssign x r) u w ms n = plainly (holdsTruth u) false (nodesScan (afterNode (w - 1)) (w - 1) ms) (barred (eqb u 7) _ n)
+scan-expr (ArrayMut x i v) u w ms n = plainly (holdsTruth u) false (nodesScan (afterNode (w - 1)) (w - 1) ms) (barred (eqb u 7) _ n)
+scan-expr (FnCall f ps) u w ms n = plainly (holdsTruth u) false (nodesScan (afterNode (w - 1)) (w - 1) ms) refl
 
 -- ---- whatever comes before: after a statement nothing depends on it
 

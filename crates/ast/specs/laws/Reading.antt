@@ -19,7 +19,7 @@ use Rattle.ast.specs.File.{Read, Refused, Tree, require, structured, rea
 use Rattle.ast.specs.Flat.{flat, entryBytes, bodyBytes}
 use Rattle.ast.specs.Limits.{depth, every, textsBelow, numbersFit}
 use Rattle.ast.specs.laws.Kinds.{by-kind}
-use Rattle.ast.specs.laws.Tests.{and-left, and-right, between-le}
+use Rattle.ast.specs.laws.Tests.{T-left, T-right, between-le}
 use Rattle.ast.specs.laws.Sound.{Gives, fails, takes, guarded, Good, parse-whole}
 use Rattle.ast.specs.laws.Entries.{bodiesOf, entries-nodes, bodies-nodes, length-entryBytes, good-nodes}
 use Rattle.lent.specs.Lists.{sum}
@@ -101,8 +101,8 @@ pub record Counts (f : List ℕ) : Type 0 where
 
 pub counted : (f : List ℕ) → T (countsOk f) → Counts f
 counted f h =
-    let n = between-le 1 1024 (nodeCount f) (and-left (between 1 1024 (nodeCount f)) (between 1 64 (textCount f)) h) in
-    let t = between-le 1 64 (textCount f) (and-right (between 1 1024 (nodeCount f)) (between 1 64 (textCount f)) h) in
+    let n = between-le 1 1024 (nodeCount f) (T-left (between 1 1024 (nodeCount f)) (between 1 64 (textCount f)) h) in
+    let t = between-le 1 64 (textCount f) (T-right (between 1 1024 (nodeCount f)) (between 1 64 (textCount f)) h) in
     record { someNodes = n .0; fewNodes = n .1; someTexts = t .0; fewTexts = t .1 }
 
 -- ---- the structure's limits

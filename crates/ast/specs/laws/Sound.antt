@@ -18,7 +18,7 @@ use Rattle.ast.specs.Tree.{Val, Text, Truth, OverName, Stmts}
 use Rattle.ast.specs.Structure.{Parsed, Fails, Takes, _>>=_, guard, many, field, binTok, unTok, Rule, noRule, orKind, byClass, at, childless, restOf, Parsers, exprKind, rightKind, exprSide, itemRule, callRule, blockRule, stmtKind, elifRule, parsers}
 use Rattle.ast.specs.Structure.{stmtsOk, allUsed, programRule, parse}
 use Rattle.ast.specs.laws.Kinds.{by-kind}
-use Rattle.ast.specs.laws.Tests.{and-both, fixed}
+use Rattle.ast.specs.laws.Tests.{T-both, fixed}
 use Rattle.ast.specs.Flat.{binTokNumber, unTokNumber, elifCount, elseCount, stmtCount, flatStmts, flat}
 use Rattle.ast.specs.Limits.{depth, every}
 use Rattle.ast.specs.laws.Pieces.{Piece, nil, join, over, leaf, Listing, pieceLit, pieceName, pieceExpr, pieceRhs, pieceKeyed, pieceSource, pieceStmt, pieceStmts, pieceBlock, pieceArm}
@@ -85,7 +85,7 @@ module _ {G : Node → Type 0} {d : ℕ} where
   took-join {a} {b} {ks = ks} x y = record {
     spelt = x .spelt ∙ ap (λ (l : List Node). a .nodes ++ l) (y .spelt) ∙ sym (append-assoc (a .nodes) (b .nodes) ks);
     within = max-le (x .within) (y .within);
-    holds = and-both (a .test) (b .test) (x .holds) (y .holds);
+    holds = T-both (a .test) (b .test) (x .holds) (y .holds);
     rest = y .rest;
   }
 
@@ -93,7 +93,7 @@ module _ {G : Node → Type 0} {d : ℕ} where
   took-over {a} v e h x = record {
     spelt = ap₂ (λ (m : Node) (l : List Node). m ∷ l) e (x .spelt);
     within = suc-le-suc (x .within);
-    holds = and-both v (a .test) h (x .holds);
+    holds = T-both v (a .test) h (x .holds);
     rest = x .rest;
   }
 
@@ -220,7 +220,7 @@ module _ (p q : ℕ → Bool) where
         takes (took-over true (cc) tt (took-join x₁ (took-join x₂ (took-as (piece-rest p q j o) (took-join (x₃ .0) (x₄ .0))))))
     sound-stmtKind kFor c b ns (fits-texts (text {x = i} h (text {x = v} h₁ done))) g =
         guarded (eqb c 2) λ t. bound (s .source ns g) λ u ms x. bound (s .block ms (x .rest)) λ k ks y.
-        takes (took-over (p i && p v) (cc (eqb-true c 2 t)) (and-both (p i) (p v) h h₁) (took-join x y))
+        takes (took-over (p i && p v) (cc (eqb-true c 2 t)) (T-both (p i) (p v) h h₁) (took-join x y))
     sound-stmtKind kReturn c b ns fits-nothing g =
         chosen (eqb c 0) (λ t. takes (took-leaf (cc (eqb-true c 0 t)) tt g))
         (guarded (eqb c 1) λ t. bound (s .expr ns g) λ u ms x. takes (took-over true (cc (eqb-true c 1 t)) tt x))

@@ -7,7 +7,7 @@ use Rattle.emit.specs.declared.Done.{Done}
 use Rattle.emit.specs.laws.Spell.{length-from}
 use Rattle.emit.specs.laws.Leaves.{ready-start}
 use Rattle.emit.specs.laws.Places.{reads-from, at-within, at-goes}
-use Rattle.emit.specs.laws.Loops.{Left, left-start, left-turn, left-end}
+use Rattle.emit.specs.laws.Loops.{LoopLeft, left-start, left-turn, left-end}
 use Rattle.expr.specs.inner.Parts as part
 use Rattle.expr.proofs.Exprs.{one-reads, one-ready, call-one, un-made, bin-room, bin-roomb, bin-reads₁, bin-cont₁, bin-reads₂, bin-ready₂, bin-made, operand-goes, operand-reads, operand-within}
 use Rattle.expr.proofs.Exprs.{mut-room, mut-roomb, mut-skips, mut-reads₁, mut-reads₂, mut-ready₃, mut-made, params-none, par-reads, par-next, par-ready, par-goes, call-ready₂, call-made}
@@ -522,7 +522,7 @@ match-table-assign-returns : (t : ℕ) → match-table-assign-lts.Need-returns (
 match-table-assign-returns t c = tab-front (c .before .before .before .before .before .before .before .before .before .before .before .before .before .before .pre .1 .1) (λ is h. tab-made h (c .before .before .before .before .before .before .before .before .before .before .before .before .before .before .pre .1 .0 .ready) (c .before .before .before .before .before .before .before .before .before .start .ensures) (c .before .before .before .before .before .before .before .before .fields-of .ensures) (c .before .before .before .before .before .before .push-at .ensures) (c .before .before .table-items .ensures))
 
 abbrev params-Inv-loop : params-lts.InvT-loop
-params-Inv-loop n contents bodies keep out₀ q₀ more₀ out q more = (length out ≡ length out₀) × Left (part.paramParts n) (part.paramParts more) contents bodies keep q₀ out₀ q out
+params-Inv-loop n contents bodies keep out₀ q₀ more₀ out q more = (length out ≡ length out₀) × LoopLeft (part.paramParts n) (part.paramParts more) contents bodies keep q₀ out₀ q out
 
 abbrev params-μ-loop : params-lts.MeasureT-loop
 params-μ-loop n contents bodies keep out₀ q₀ more₀ out q more = more
@@ -553,7 +553,7 @@ params-returns : (t : ℕ) → params-lts.Need-returns (params-claims t) (params
 params-returns t c = left-end (c .before .loop .inv .1) (params-none (omega arith))
 
 abbrev table-items-Inv-loop : table-items-lts.InvT-loop
-table-items-Inv-loop n x contents bodies keep out₀ q₀ more₀ out q more = (length out ≡ length out₀) × Left (part.itemParts n x) (part.itemParts more x) contents bodies keep q₀ out₀ q out
+table-items-Inv-loop n x contents bodies keep out₀ q₀ more₀ out q more = (length out ≡ length out₀) × LoopLeft (part.itemParts n x) (part.itemParts more x) contents bodies keep q₀ out₀ q out
 
 abbrev table-items-μ-loop : table-items-lts.MeasureT-loop
 table-items-μ-loop n x contents bodies keep out₀ q₀ more₀ out q more = more

@@ -68,18 +68,18 @@ one-awaits e = rw append-nil at (expr-awaits e 0 [] done)
 -- ---- a turn of the loop: u bytes of the entries and v of the bodies are passed, m trees are awaited
 
 -- what is left of the nodes ms
-pub record Left (ms : List Node) (c b : List ℕ) (u v m : ℕ) : Type 0 where
+pub record AwaitsLeft (ms : List Node) (c b : List ℕ) (u v m : ℕ) : Type 0 where
   pub nodes : List Node
   pub awaits : Awaits m nodes
   pub spells : Spells nodes (drop u c) (drop v b)
   pub cont : u + length (entryBytes nodes) ≡ length (entryBytes ms)
   pub body : v + length (bodyBytes nodes) ≡ length (bodyBytes ms)
 
-pub left-start : (e : Expr) (c b : List ℕ) → Spells (flatExpr e) c b → Left (flatExpr e) c b 0 0 1
+pub left-start : (e : Expr) (c b : List ℕ) → Spells (flatExpr e) c b → AwaitsLeft (flatExpr e) c b 0 0 1
 left-start e c b h = record { nodes = flatExpr e; awaits = one-awaits e; spells = h; cont = omega arith; body = omega arith }
 
 -- no tree is awaited: no node is left
-pub left-end : {ms : List Node} {c b : List ℕ} {u v m : ℕ} → m ≡ 0 → Left ms c b u v m → (u ≡ length (entryBytes ms)) × (v ≡ length (bodyBytes ms))
+pub left-end : {ms : List Node} {c b : List ℕ} {u v m : ℕ} → m ≡ 0 → AwaitsLeft ms c b u v m → (u ≡ length (entryBytes ms)) × (v ≡ length (bodyBytes ms))
 left-end z h = by (h .nodes) (rw z at (h .awaits)) (h .cont) (h .body)
   where
     by : {u v x y : ℕ} (ns : List Node) → Awaits 0 ns → u + length (entryBytes ns) ≡ x → v + length (bodyBytes ns) ≡ y → (u ≡ x) × (v ≡ y)
@@ -94,7 +94,7 @@ pub record Turn (ms : List Node) (c b : List ℕ) (u v m : ℕ) : Type 0 where
   pub within : u + 2 ≤ length c
   pub bodies : v + bodyLength (getD c u 0) ≤ length b
   pub small : m + getD c (u + 1) 0 ≤ length c
-  pub left : (q : ℕ) → q + 1 ≡ m + getD c (u + 1) 0 → Left ms c b (u + 2) (v + bodyLength (getD c u 0)) q
+  pub left : (q : ℕ) → q + 1 ≡ m + getD c (u + 1) 0 → AwaitsLeft ms c b (u + 2) (v + bodyLength (getD c u 0)) q
 
 module _ (ms : List Node) (c b : List ℕ) (u v : ℕ) where
   by-node : (m : ℕ) (ns : List Node) → 0 < m → Awaits m ns → Spells ns (drop u c) (drop v b) → u + length (entryBytes ns) ≡ length (entryBytes ms) → v + length (bodyBytes ns) ≡ length (bodyBytes ms)
@@ -117,5 +117,5 @@ module _ (ms : List Node) (c b : List ℕ) (u v : ℕ) where
         };
       }
 
-  pub turn : (m : ℕ) → 0 < m → u ≤ length c → v ≤ length b → Left ms c b u v m → Turn ms c b u v m
+  pub turn : (m : ℕ) → 0 < m → u ≤ length c → v ≤ length b → AwaitsLeft ms c b u v m → Turn ms c b u v m
   turn m p i j h = by-node m (h .nodes) p (h .awaits) (h .spells) (h .cont) (h .body) i j

@@ -4,7 +4,7 @@ use Prim.Native.Nat.{_+_, _-_, _*_, suc}
 use lib.ListN.{length, getD}
 use borrow.Author.Needs.{needs}
 use Rattle.emit.specs.declared.Done.{Done}
-use Rattle.emit.specs.laws.Loops.{Left, left-start, left-turn, left-end}
+use Rattle.emit.specs.laws.Loops.{LoopLeft, left-start, left-turn, left-end}
 use Rattle.stmt.specs.inner.Parts.{lists}
 use Rattle.stmt.specs.laws.Kinds.{kind-here, others}
 use Rattle.stmt.specs.laws.Simple.{stmt-room}
@@ -330,7 +330,7 @@ ifstmt-returns : (t : ℕ) → ifstmt-lts.Need-returns (ifstmt-claims t) (ifstmt
 ifstmt-returns t c = if-goes (c .before .before .before .before .before .before .before .before .before .before .args .contents .now) (c .before .before .before .before .before .before .before .before .before .before .args .bodies .now) (c .before .before .before .before .before .before .before .before .before .before .args .p) (c .before .before .before .before .before .before .before .before .before .before .pre .1 .1) (c .before .before .before .before .pass .ensures) (getD (c .before .before .before .before .before .before .before .before .before .before .args .bodies .now) (c .before .before .before .before .before .before .before .before .before .before .args .p .body) 0) (getD (c .before .before .before .before .before .before .before .before .before .before .args .contents .now) (c .before .before .before .before .before .before .before .before .before .before .args .p .cont + 1) 0 - 2 - getD (c .before .before .before .before .before .before .before .before .before .before .args .bodies .now) (c .before .before .before .before .before .before .before .before .before .before .args .p .body) 0) refl (omega (arith, if-counts (c .before .before .before .before .before .before .before .before .before .before .args .contents .now) (c .before .before .before .before .before .before .before .before .before .before .args .bodies .now) (c .before .before .before .before .before .before .before .before .before .before .args .p) (c .before .before .before .before .before .before .before .before .before .before .pre .1 .1) (c .before .before .before .before .before .before .before .before .before .before .pre .1 .0) .0)) (c .before .before .arm .ensures)
 
 abbrev stmts-Inv-loop : stmts-lts.InvT-loop
-stmts-Inv-loop n contents bodies keep out₀ q₀ more₀ out q more = (length out ≡ length out₀) × Left (lists (q₀ .lbl) n) (lists (q .lbl) more) contents bodies keep q₀ out₀ q out
+stmts-Inv-loop n contents bodies keep out₀ q₀ more₀ out q more = (length out ≡ length out₀) × LoopLeft (lists (q₀ .lbl) n) (lists (q .lbl) more) contents bodies keep q₀ out₀ q out
 
 abbrev stmts-μ-loop : stmts-lts.MeasureT-loop
 stmts-μ-loop n contents bodies keep out₀ q₀ more₀ out q more = more

@@ -5,12 +5,12 @@ use lib.ListN.{length}
 use Rattle.ast.specs.Tree.{Expr}
 use Rattle.ast.specs.Flat.{flatExpr}
 use Rattle.emit.specs.inner.Made.{Spells}
-use Rattle.expr.specs.laws.AwaitsLaws.{Left, left-start, left-end, turn}
+use Rattle.expr.specs.laws.AwaitsLaws.{AwaitsLeft, left-start, left-end, turn}
 use Rattle.expr.proofs.skip.skip.Statement.{statement}
 use Rattle.expr.proofs.skip.skip.Tie as tie
 
 abbrev Inv-loop : tie.InvT-loop
-Inv-loop entries bodies u₀ v₀ more₀ u v more = (u ≤ length entries) × (v ≤ length bodies) × ((e : Expr) → Spells (flatExpr e) entries bodies → Left (flatExpr e) entries bodies u v more)
+Inv-loop entries bodies u₀ v₀ more₀ u v more = (u ≤ length entries) × (v ≤ length bodies) × ((e : Expr) → Spells (flatExpr e) entries bodies → AwaitsLeft (flatExpr e) entries bodies u v more)
 
 abbrev μ-loop : tie.MeasureT-loop
 μ-loop entries bodies u₀ v₀ more₀ u v more = length entries - u
