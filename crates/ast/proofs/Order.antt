@@ -5,18 +5,19 @@ use mathlib.Core.Bool.{Bool, true, false}
 use mathlib.Core.List.{List}
 use Prim.Native.Nat.{ℕ, _+_, _*_, _≤_, _<_, _-_}
 use native.Mathlib.Omega.{arith}
-use lib.Dec.{leb, eqb}
+use lib.Dec.{eqb}
 use lib.ListN.{length, take, drop, length-drop}
 use lib.Seq.{drop-drop}
-use borrow.Author.Tests.{leb-true, le-leb, lt-leb, eq-eqb, ne-eqb, eqb-true, eqb-false}
+use borrow.Author.Tests.{le-leb, lt-leb, eq-eqb, ne-eqb, eqb-true, eqb-false}
 use Rattle.lent.specs.laws.Parts.{length-part}
 use Rattle.ast.specs.Tree.{Stmts}
 use Rattle.ast.specs.Structure.{Parsed, Fails, Takes, parse}
-use Rattle.ast.specs.File.{nodeCount, textCount, contentsSize, lengths, entries, bodiesSize, nodes, nodesFrom, between, nodeOk, countsOk, kindsOk, lengthsOk, textsOk, fieldsOk, Read, require, structured, readTree}
+use Rattle.ast.specs.File.{nodeCount, textCount, contentsSize, lengths, entries, bodiesSize, nodes, nodesFrom, nodeOk, countsOk, kindsOk, lengthsOk, textsOk, fieldsOk, Read, require, structured, readTree}
 use Rattle.ast.specs.inner.Answer.{answerOf, parsed, orElse, partsAnswer}
+use Rattle.ast.specs.laws.Reading.{Counts, counted}
+use Rattle.ast.specs.laws.PlainFile.{entries-slice}
 use Rattle.ast.proofs.Rooms.{to-end}
 use Rattle.ast.proofs.Cuts.{part-end}
-use Rattle.lent.specs.laws.Truths.{and-left, and-right}
 use Rattle.lent.specs.Lists.{sum, all}
 
 -- one check
@@ -36,22 +37,8 @@ answer-parse (Takes t ns) = refl
 
 -- ---- the counts
 
-pub record Counts (f : List ℕ) : Type 0 where
-  pub someNodes : 1 ≤ nodeCount f
-  pub fewNodes : nodeCount f ≤ 1024
-  pub someTexts : 1 ≤ textCount f
-  pub fewTexts : textCount f ≤ 64
-
 pub counts : (f : List ℕ) → countsOk f ≡ true → Counts f
-counts f e =
-    let n = and-left (between 1 1024 (nodeCount f)) (between 1 64 (textCount f)) e in
-    let t = and-right (between 1 1024 (nodeCount f)) (between 1 64 (textCount f)) e in
-    record {
-      someNodes = leb-true 1 (nodeCount f) (and-left (leb 1 (nodeCount f)) (leb (nodeCount f) 1024) n);
-      fewNodes = leb-true (nodeCount f) 1024 (and-right (leb 1 (nodeCount f)) (leb (nodeCount f) 1024) n);
-      someTexts = leb-true 1 (textCount f) (and-left (leb 1 (textCount f)) (leb (textCount f) 64) t);
-      fewTexts = leb-true (textCount f) 64 (and-right (leb 1 (textCount f)) (leb (textCount f) 64) t);
-    }
+counts f e = counted f (rw e tt)
 
 -- ---- the file
 
@@ -111,9 +98,6 @@ module _ (f : List ℕ) where
     lengths-slice : take ((3 + count) - 3) (drop 3 f) ≡ lengths f
     lengths-slice = rw (part-end 3 count, ec)
 
-    entries-slice : take ((3 + count + 2 * nodes) - (3 + count)) (drop (3 + count) f) ≡ entries f
-    entries-slice = rw (part-end (3 + count) (2 * nodes), ec, en)
-
     bodies-slice : take (length f - (3 + count + 2 * nodes)) (drop (3 + count + 2 * nodes) f) ≡ drop (contentsSize f) f
     bodies-slice = rw (to-end (3 + count + 2 * nodes) f, ec, en)
 
@@ -122,7 +106,7 @@ module _ (f : List ℕ) where
         → r ≡ answerOf (readTree f)
     slices h e {r} q =
         let z : contentsSize f ≤ length f = rw (ec, en) at l in
-        sym (goes-on h e z ∙ sym (rw (lengths-slice, entries-slice, bodies-slice, ec) at q))
+        sym (goes-on h e z ∙ sym (rw (lengths-slice, entries-slice f ec en, bodies-slice, ec) at q))
 
     pub lengths-size : length (take ((3 + count) - 3) (drop 3 f)) ≡ count
     lengths-size = rw (part-end 3 count) (length-part f 3 count (omega arith))

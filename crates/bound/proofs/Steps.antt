@@ -11,9 +11,9 @@ use lib.Dec.{leb, eqb}
 use lib.ListN.{length, getD, take, drop, length-drop}
 use lib.Seq.{drop-cons}
 use Rattle.lent.specs.Bytes.{AreBytes, beValue, part}
-use Rattle.lent.specs.laws.Parts.{length-part, part-lent}
-use Rattle.ast.specs.File.{nodeCount, entries, readTree}
-use Rattle.ast.specs.laws.PlainFile.{Accepted, accepted}
+use Rattle.lent.specs.laws.Parts.{length-part}
+use Rattle.ast.specs.File.{nodeCount, readTree}
+use Rattle.ast.specs.laws.PlainFile.{Accepted, accepted, entries-slice}
 use Rattle.ast.specs.inner.Under.{plainOf}
 use Rattle.bound.specs.declared.Part.{Part}
 use Rattle.bound.specs.inner.BoundOf.{boundOf}
@@ -173,11 +173,8 @@ module _ (f : List ℕ) (o : plainOf (readTree f) ≡ true) where
     pub entries-end : 3 + getD f 2 0 + 2 * n ≤ length f
     entries-end = omega (arith, holds .inside, en)
 
-    slice-entries : take (3 + getD f 2 0 + 2 * n - (3 + getD f 2 0)) (drop (3 + getD f 2 0) f) ≡ entries f
-    slice-entries = part-lent f (3 + getD f 2 0) (2 * n) ∙ ap (λ (k : ℕ). part f (3 + getD f 2 0) (2 * k)) en
-
     pub entries-few : length (take (3 + getD f 2 0 + 2 * n - (3 + getD f 2 0)) (drop (3 + getD f 2 0) f)) ≤ 2048
-    entries-few = omega (arith, ap length slice-entries, length-part f (3 + getD f 2 0) (2 * nodeCount f) (holds .inside), holds .fewNodes)
+    entries-few = omega (arith, ap length (entries-slice f refl en), length-part f (3 + getD f 2 0) (2 * nodeCount f) (holds .inside), holds .fewNodes)
 
     pub file-counted : AreBytes f → {r : ℕ} → r ≡ ofEntries (take (3 + getD f 2 0 + 2 * n - (3 + getD f 2 0)) (drop (3 + getD f 2 0) f)) % limit → r ≡ boundOf (readTree f) % limit
-    file-counted a e = e ∙ ap (λ (x : ℕ). x % limit) (ap ofEntries slice-entries ∙ file-bound f a o)
+    file-counted a e = e ∙ ap (λ (x : ℕ). x % limit) (ap ofEntries (entries-slice f refl en) ∙ file-bound f a o)

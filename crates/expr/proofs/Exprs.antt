@@ -75,9 +75,6 @@ first-count h = ap (λ (l : List ℕ). getD l 1 0) (h .nodes)
 
 -- ---- the parts of an expression are the same where only its events differ
 
-pub as-operand : {e : Expr} {c b : List ℕ} → At exprs e c b → At operands e c b
-as-operand h = record { spells = h .spells; ok = h .ok }
-
 pub as-arg : {e : Expr} {c b : List ℕ} → At exprs e c b → At args e c b
 as-arg h = record { spells = h .spells; ok = h .ok }
 

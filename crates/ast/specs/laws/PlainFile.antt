@@ -3,11 +3,12 @@
 use mathlib.Core.Path.{_≡_, refl, ap, _∙_}
 use mathlib.Core.Bool.{Bool, false}
 use mathlib.Core.List.{List}
-use Prim.Native.Nat.{ℕ, _+_, _≤_}
+use Prim.Native.Nat.{ℕ, _+_, _*_, _-_, _≤_}
 use native.Mathlib.Omega.{arith}
 use lib.Dec.{leb→le, eqb→eq}
-use lib.ListN.{length}
+use lib.ListN.{length, take, drop}
 use Rattle.lent.specs.Bytes.{AreBytes}
+use Rattle.lent.specs.laws.Parts.{part-lent}
 use Rattle.ast.specs.Tree.{Stmts}
 use Rattle.ast.specs.File.{nodeCount, textCount, contentsSize, entries, bodiesSize}
 use Rattle.ast.specs.File.{Read, Refused, Tree, readTree}
@@ -44,6 +45,10 @@ accepted f e =
       inside = leb→le (contentsSize f) (length f) (x .inside);
       whole = eqb→eq (contentsSize f + bodiesSize f) (length f) (x .whole);
     }
+
+-- its entries as a slice of it
+pub entries-slice : (f : List ℕ) {count nodes : ℕ} → count ≡ textCount f → nodes ≡ nodeCount f → take ((3 + count + 2 * nodes) - (3 + count)) (drop (3 + count) f) ≡ entries f
+entries-slice f {count} {nodes} ec en = part-lent f (3 + count) (2 * nodes) ∙ rw (ec, en)
 
 -- ---- the laws
 

@@ -148,21 +148,6 @@ did-then {es} {fs} {s} {buf} a b = record {
   buffer = b .buffer ∙ rw (a .state, a .buffer) (sym (wrote-append es fs s buf));
 }
 
-pub did-on : (f : ℕ → List Event) (q : ℕ) {es : List Event} {s : Low} {buf : List ℕ} {s₁ : Low} {buf₁ : List ℕ} {s₂ : Low} {buf₂ : List ℕ}
-    → q ≡ s .reg + regsIn es → Did es s buf s₁ buf₁ → Did (f (s₁ .reg)) s₁ buf₁ s₂ buf₂ → Did (es ++ f q) s buf s₂ buf₂
-did-on f q {es} {s} {buf} {s₁} {buf₁} {s₂} {buf₂} e a b = did-then a (by-test (is (eqb (s₁ .refused) 0)))
-  where
-    by-test : Is (eqb (s₁ .refused) 0) → Did (f q) s₁ buf₁ s₂ buf₂
-    by-test (yes z) =
-        let g : s₁ .reg ≡ q = ap (λ (t : Low). t .reg) (a .state) ∙ reg-after es s (ap (λ (t : Low). t .refused) (sym (a .state)) ∙ eqb-true (s₁ .refused) 0 z) ∙ sym e in
-        rw (← g) b
-    by-test (no z) =
-        let h = eqb-false (s₁ .refused) 0 z in
-        record {
-          state = b .state ∙ after-refused (f (s₁ .reg)) s₁ h ∙ sym (after-refused (f q) s₁ h);
-          buffer = b .buffer ∙ wrote-refused (f (s₁ .reg)) s₁ buf₁ h ∙ sym (wrote-refused (f q) s₁ buf₁ h);
-        }
-
 -- ---- the room
 
 pub length-items : (l : List Single) → length (concat (map itemBytes l)) ≡ 16 * length l

@@ -4,7 +4,7 @@ use mathlib.Core.List.{List, [], _∷_, _++_}
 use Prim.Native.Nat.{ℕ, zero, suc, _<_, zero-le, suc-le-suc, _≤_}
 use native.Mathlib.Nat.{not-suc-le-zero, le-of-suc-le-suc}
 use lib.ListN.{length, take, drop, getD, set, replicate}
-use Rattle.lent.specs.Bytes.{Each, none, more, AreBytes, part, splice}
+use Rattle.lent.specs.Bytes.{Each, none, more, AreBytes, part}
 use native.Mathlib.Omega.{arith}
 
 module _ {A : Type 0} {P : A → Type 0} where
@@ -44,9 +44,6 @@ module _ {A : Type 0} {P : A → Type 0} where
 module _ {P : ℕ → Type 0} where
   pub each-part : {s : List ℕ} (at n : ℕ) → Each P s → Each P (part s at n)
   each-part at n h = each-take n (each-drop at h)
-
-  pub each-splice : {d s : List ℕ} (at : ℕ) → Each P d → Each P s → Each P (splice d at s)
-  each-splice {d} {s} at h k = each-append (each-take at h) (each-append k (each-drop (length s) (each-drop at h)))
 
 -- every index of a lent slice holds a byte
 pub bytes-of : (s : List ℕ) → ((i : ℕ) → getD s i 0 < 256) → AreBytes s

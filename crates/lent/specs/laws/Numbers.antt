@@ -10,7 +10,7 @@ use lib.Arith.{digits-lt, digits-div, mod-mul}
 use lib.Pow.{pow-add}
 use Rattle.lent.specs.Bytes.{beValue, beBytes, part, splice, AreBytes, none, more}
 use Rattle.lent.specs.laws.Each.{each-part}
-use Rattle.lent.specs.laws.Parts.{length-part, part-add, part-one, part-splice, splice-part, splice-append, splice-one}
+use Rattle.lent.specs.laws.Parts.{length-part, part-add, part-one, splice-part, splice-append, splice-one}
 
 -- a power of 256 is not 0
 pub pow256-pos : (w : ℕ) → 0 < 256 ^ w
@@ -122,10 +122,6 @@ pub written-both : (d : List ℕ) (at v w n : ℕ) {d₁ d₂ : List ℕ} → at
     → d₂ ≡ splice d at (beBytes (v + w) n)
 written-both d at v w n h p q = q ∙ ap (λ (r : List ℕ). splice r (at + v) (beBytes w n)) p ∙ sym (splice-beBytes d at v w n h)
 
--- a number that was written is read again
-pub beValue-splice : (d : List ℕ) (at w n : ℕ) → n < 256 ^ w → at ≤ length d → beValue (part (splice d at (beBytes w n)) at w) ≡ n
-beValue-splice d at w n h l = ap beValue (part-splice d at (beBytes w n) w (length-beBytes w n) l) ∙ beValue-beBytes w n h
-
 -- a number that is there already is written: nothing changes
 pub splice-beValue : (d : List ℕ) (at w : ℕ) → AreBytes d → at + w ≤ length d → splice d at (beBytes w (beValue (part d at w))) ≡ d
 splice-beValue d at w b h =
@@ -138,13 +134,6 @@ splice-beValue d at w b h =
 pub beValue-two : (s : List ℕ) (at : ℕ) → at + 2 ≤ length s → beValue (part s at 2) ≡ getD s at 0 * 256 + getD s (at + 1) 0
 beValue-two s at h =
     beValue-part s at 1 1 h ∙ ap₂ (λ (x y : ℕ). x * 256 + y) (beValue-one s at (omega arith)) (beValue-one s (at + 1) (omega arith))
-
-pub beValue-2 : (a b : ℕ) → beValue (a ∷ b ∷ []) ≡ a * 256 + b
-beValue-2 a b = omega arith
-
-pub beValue-8 : (a b c d e f g h : ℕ) → beValue (a ∷ b ∷ c ∷ d ∷ e ∷ f ∷ g ∷ h ∷ [])
-    ≡ ((((((a * 256 + b) * 256 + c) * 256 + d) * 256 + e) * 256 + f) * 256 + g) * 256 + h
-beValue-8 a b c d e f g h = omega arith
 
 -- eight bytes that are read as a number and written
 pub moved-eight : (d : List ℕ) (from to : ℕ) {v : ℕ} {e : List ℕ} → AreBytes d → from + 8 ≤ length d → v ≡ beValue (part d from 8) → e ≡ splice d to (beBytes 8 v)

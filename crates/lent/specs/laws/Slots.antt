@@ -6,9 +6,9 @@ use Prim.Native.Nat.{ℕ, zero, suc, _+_, _*_, _-_, _≤_, _<_}
 use native.Mathlib.Nat.{not-suc-le-zero, le-of-suc-le-suc, zero-mul, suc-mul, add-comm, mul-le-mul-right}
 use native.Mathlib.Omega.{arith}
 use lib.ListN.{length, take, drop, getD, set, replicate, length-append, length-drop, take-append-drop, replicate-append-replicate}
-use lib.Seq.{take-at, drop-at, drop-drop, length-take-le}
+use lib.Seq.{take-at, drop-at, length-take-le}
 use Rattle.lent.specs.Bytes.{part, splice, slots, concat, Wide, none, more}
-use Rattle.lent.specs.laws.Parts.{length-part, part-append-right, part-part, part-splice-around, splice-append-right, splice-drop, take-splice}
+use Rattle.lent.specs.laws.Parts.{part-append-right, splice-append-right, splice-drop, take-splice}
 
 -- slot i ends where slot n begins, or before
 pub slot-end : (w n i : ℕ) → i < n → i * w + w ≤ n * w
@@ -65,12 +65,6 @@ slots-wide w (suc n) s h =
     let k : n * w + w ≤ length s = rw suc-mul at h in
     more (length-take-le w s (omega arith)) (slots-wide w n (drop w s) (simp length-drop (omega arith)))
 
-pub getD-slots : (w n i : ℕ) (s z : List ℕ) → i < n → getD (slots w n s) i z ≡ part s (i * w) w
-getD-slots w zero i s z h = absurd (not-suc-le-zero h)
-getD-slots w (suc n) zero s z h = rw (zero-mul w)
-getD-slots w (suc n) (suc i) s z h =
-    getD-slots w n i (drop w s) z (le-of-suc-le-suc h) ∙ rw (drop-drop, suc-mul, add-comm w (i * w))
-
 -- the slots after one of them is written anew
 pub slots-splice : (w n i : ℕ) (s b : List ℕ) → i < n → length b ≡ w → n * w ≤ length s
     → slots w n (splice s (i * w) b) ≡ set (slots w n s) i b
@@ -98,20 +92,6 @@ slots-splice-behind w (suc n) at s b h l =
     (ap (λ (x : ℕ). slots w n (drop w (splice s x b))) p
     ∙ ap (slots w n) (splice-drop w s (at - w) b (omega arith))
     ∙ slots-splice-behind w n (at - w) (drop w s) b (omega arith) (simp length-drop (omega arith)))
-
--- ---- n slots that begin at base
-
-pub getD-region : (s : List ℕ) (base w n i : ℕ) (z : List ℕ) → i < n → getD (slots w n (part s base (n * w))) i z ≡ part s (base + i * w) w
-getD-region s base w n i z h =
-    getD-slots w n i (part s base (n * w)) z h ∙ part-part s base (n * w) (i * w) w (slot-end w n i h)
-
-pub splice-region : (d : List ℕ) (base w n i : ℕ) (b : List ℕ) → i < n → length b ≡ w → base + n * w ≤ length d
-    → slots w n (part (splice d (base + i * w) b) base (n * w)) ≡ set (slots w n (part d base (n * w))) i b
-splice-region d base w n i b h e l =
-    let k = slot-end w n i h in
-    let m = length-part d base (n * w) l in
-    ap (slots w n) (part-splice-around d base (n * w) (i * w) b (omega arith) (omega arith))
-    ∙ slots-splice w n i (part d base (n * w)) b h e (omega arith)
 
 -- ---- from a list to its slots and back
 

@@ -9,10 +9,10 @@ use borrow.Author.Tests.{lt-ltb, le-ltb}
 use Rattle.lent.specs.Bytes.{AreBytes, beValue, part, splice}
 use Rattle.lent.specs.laws.Parts.{length-part, part-lent}
 use Rattle.ast.specs.Tree.{Stmts}
-use Rattle.ast.specs.File.{readTree, Read, Refused, Tree, contentsSize, lengths, entries, nodeBodies}
+use Rattle.ast.specs.File.{readTree, Read, Refused, Tree, contentsSize, lengths, nodeBodies}
 use Rattle.ast.specs.inner.Answer.{answerOf}
 use Rattle.ast.specs.laws.Reading.{read-flat, read-numbers}
-use Rattle.ast.specs.laws.PlainFile.{accepted}
+use Rattle.ast.specs.laws.PlainFile.{accepted, entries-slice}
 use Rattle.tables.specs.ProgramBytes.{encodeProgram}
 use Rattle.tables.specs.laws.ProgramLaws.{program-length}
 use Rattle.compiler.specs.Lower.{lowerTree, refusal, programOf, decide, lower, lowered}
@@ -35,9 +35,6 @@ module _ (f : List ℕ) (o : answerOf (readTree f) ≡ 0) (n : ℕ) (en : n ≡ 
   pub lengths-few : length (take (3 + getD f 2 0 - 3) (drop 3 f)) ≤ 64
   lengths-few = omega (arith, ap length slice-lengths, length-part f 3 (getD f 2 0) (omega (arith, contents-fit)), accepted f o .fewTexts)
 
-  slice-entries : take (3 + getD f 2 0 + 2 * n - (3 + getD f 2 0)) (drop (3 + getD f 2 0) f) ≡ entries f
-  slice-entries = part-lent f (3 + getD f 2 0) (2 * n) ∙ ap (λ (k : ℕ). part f (3 + getD f 2 0) (2 * k)) en
-
   module _ (total : ℕ) (et : total ≡ sum (take (3 + getD f 2 0 - 3) (drop 3 f))) where
     total-is : total ≡ sum (lengths f)
     total-is = et ∙ ap sum slice-lengths
@@ -57,7 +54,7 @@ module _ (f : List ℕ) (o : answerOf (readTree f) ≡ 0) (n : ℕ) (en : n ≡ 
     tree-spelt t a e =
         let w = read-within a e in
         let k = read-flat a e in
-        record { within = w .0; few = w .1; contents = slice-entries ∙ k .0; parts = slice-bodies ∙ k .1; numbers = read-numbers a e }
+        record { within = w .0; few = w .1; contents = entries-slice f refl en ∙ k .0; parts = slice-bodies ∙ k .1; numbers = read-numbers a e }
 
 -- ---- what the call answers
 

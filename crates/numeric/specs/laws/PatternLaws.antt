@@ -5,7 +5,7 @@ use mathlib.Core.Bool.{Bool, true, false, not, _||_}
 use Prim.Native.Nat.{ℕ, _<_, _^_}
 use lib.Dec.{T, eqb, eqb→eq}
 use lib.Ieee.{Float, nan, inf, fin, binary64, fits, isNan, nanBits, toBits, ofBits}
-use lib.Ieee.Bits.{ofBits-toBits, toBits-ofBits, toBits-lt, ofBits-fits, nanBits-is}
+use lib.Ieee.Bits.{ofBits-toBits, toBits-ofBits, ofBits-fits, nanBits-is}
 use Rattle.numeric.specs.inner.Patterns.{bitsOf}
 
 pub bits-nan : bitsOf nan ≡ 0x7ff8_0000_0000_0000
@@ -14,9 +14,6 @@ bits-nan = refl
 
 pub pattern-back : (x : Float) → T (fits binary64 x) → ofBits binary64 (bitsOf x) ≡ x
 pattern-back x h = ofBits-toBits binary64 x h
-
-pub pattern-lt : (x : Float) → T (fits binary64 x) → bitsOf x < 2 ^ 64
-pattern-lt x h = toBits-lt binary64 x h
 
 pub pattern-fits : (n : ℕ) → T (fits binary64 (ofBits binary64 n))
 pattern-fits n = ofBits-fits binary64 n

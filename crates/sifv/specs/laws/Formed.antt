@@ -18,8 +18,8 @@ use Rattle.lent.specs.laws.Numbers.{beValue-beBytes}
 use Rattle.sifv.specs.Value.{Value, One}
 use Rattle.sifv.specs.Value as model
 use Rattle.sifv.specs.Slot.{singleKind, wordOf, singleOf, encodeSlot, decodeSlot}
-use Rattle.sifv.specs.inner.Seen.{seen, singleSeen, bare, headBytes, kindIn, wordIn, setItem}
-use Rattle.sifv.specs.laws.Laws.{encode-bare, decode-single, word-plain}
+use Rattle.sifv.specs.inner.Seen.{seen, singleSeen, headBytes, kindIn, wordIn, setItem}
+use Rattle.sifv.specs.laws.Laws.{decode-single, word-plain}
 use Rattle.sifv.specs.laws.Items.{put-item-law}
 use Rattle.sifv.specs.declared.SifVal.{SifVal}
 use Rattle.sifv.specs.declared.SifVal.the-variants.{Num, Str, Bl, Null, Arr, Tab}
@@ -127,11 +127,6 @@ Inside d at n e = e ≡ splice d at (part e at n)
 pub inside-same : (d : List ℕ) (at n : ℕ) → at + n ≤ length d → Inside d at n d
 inside-same d at n h = sym (splice-part d at n h)
 
-pub inside-length : (d : List ℕ) (at n : ℕ) (e : List ℕ) → at + n ≤ length d → at + n ≤ length e → Inside d at n e → length e ≡ length d
-inside-length d at n e h g i =
-    let l : length (part e at n) ≡ n = length-part e at n g in
-    ap length i ∙ length-splice d at (part e at n) (omega arith)
-
 pub inside-splice : (d : List ℕ) (at n : ℕ) (e : List ℕ) (i : ℕ) (s : List ℕ) → at + n ≤ length d → at + n ≤ length e → Inside d at n e → at ≤ i → i + length s ≤ at + n → Inside d at n (splice e i s)
 inside-splice d at n e i s h g k p q =
     let f = splice e i s in
@@ -210,16 +205,6 @@ headed d at k ws d₁ {d₂} {d₃} h lw z i l p q =
     ap (λ (r : List ℕ). part r (at + 16) 240) e ∙ part-splice-behind d₂ at (k ∷ []) (at + 16) 240 (omega arith) (omega arith)
     ∙ ap (λ (r : List ℕ). part r (at + 16) 240) p ∙ part-splice-behind d₁ (at + 8) ws (at + 16) 240 (omega arith) (omega arith) ∙ z .tail in
     i₃ ∙ ap (splice d at) (slot-cut d₃ at ∙ ap₂ (λ (u v : List ℕ). u ++ v) a (ap₂ (λ (u v : List ℕ). u ++ v) b (ap₂ (λ (u v : List ℕ). u ++ v) c y)))
-
--- `set`
-pub set-law : (d : List ℕ) (at : ℕ) (v : SifVal) {k w : ℕ} {d₁ d₂ d₃ : List ℕ} → at + 256 ≤ length d → Formed (part d at 256)
-    → d₁ ≡ cond (leb 5 (getD d at 0)) (splice d at (zeros 256)) d → w ≡ wordIn v → d₂ ≡ splice d₁ (at + 8) (beBytes 8 w) → k ≡ kindIn v → d₃ ≡ set d₂ at k
-    → d₃ ≡ splice d at (encodeSlot (bare v))
-set-law d at v {k} {w} {d₁} h f p e q g r =
-    let c = cleared d at h f p in
-    headed d at k (beBytes 8 w) d₁ h refl (c .0) (c .1) (c .2) q r
-    ∙ ap₂ (λ (x y : ℕ). splice d at (headBytes x 0 y ++ zeros 240)) g e
-    ∙ ap (splice d at) (sym (encode-bare v))
 
 -- `move_to` of a slot without contents
 pub move-small : (d : List ℕ) (from to : ℕ) {k : ℕ} {d₁ d₂ d₃ : List ℕ} → from + 256 ≤ length d → to + 256 ≤ length d → from % 256 ≡ to % 256

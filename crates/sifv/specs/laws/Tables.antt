@@ -3,7 +3,6 @@
 use mathlib.Core.Path.{_≡_, refl, sym, ap, ap₂, _∙_}
 use mathlib.Core.Bool.{false}
 use mathlib.Core.List.{List, [], _∷_}
-use mathlib.Core.Option.{some}
 use Prim.Native.Nat.{ℕ, zero, suc, _+_, _≤_, _<_}
 use native.Mathlib.Nat.{not-suc-le-zero, le-of-suc-le-suc}
 use native.Mathlib.Numerals.{add-one}
@@ -11,12 +10,12 @@ use native.Mathlib.Omega.{arith}
 use lib.Dec.{eqb}
 use lib.ListN.{length, getD, drop}
 use lib.Seq.{getD-drop}
-use borrow.Author.Tests.{eq-eqb, ne-eqb}
+use borrow.Author.Tests.{ne-eqb}
 use Rattle.lent.specs.Bytes.{part}
 use Rattle.lent.specs.laws.Parts.{getD-part}
 use Rattle.sifv.specs.Value.{Single, Null, Entry, entry, lookup}
 use Rattle.sifv.specs.Slot.{entriesOf, contents}
-use Rattle.sifv.specs.inner.Seen.{shown, found, slotItem, entriesIn}
+use Rattle.sifv.specs.inner.Seen.{found, slotItem, entriesIn}
 use Rattle.sifv.specs.laws.Laws.{length-singles, length-entries}
 use Rattle.sifv.specs.laws.Items.{contents-item}
 use Rattle.sifv.specs.laws.Places.{place-here, place-on, place-end, key-past, key-here}
@@ -66,11 +65,6 @@ module _ (s : List ℕ) (at n i k j : ℕ) (g : n ≤ 16) (e : lookup (entriesIn
 
   pub key-other : i < n → j ≡ getD s (at + (232 + i)) 0 → (j ≡ k → ⊥) → lookup (entriesIn n (part s at 256)) k ≡ lookup (drop (i + 1) (entriesIn n (part s at 256))) k
   key-other h f z = e ∙ ap (λ (t : List Entry). lookup t k) (step h f) ∙ rw (ne-eqb j k z, add-one i)
-
-  pub key-found : {r : SifVal} → i < n → j ≡ getD s (at + (232 + i)) 0 → j ≡ k → r ≡ shown (slotItem (part s at 256) i) → r ≡ found (lookup (entriesIn n (part s at 256)) k)
-  key-found h f z q =
-      let w : lookup (entriesIn n (part s at 256)) k ≡ some (slotItem (part s at 256) i) = e ∙ ap (λ (t : List Entry). lookup t k) (step h f) ∙ rw (eq-eqb j k z) in
-      q ∙ ap found (sym w)
 
   pub key-none : n ≤ i → Empty ≡ found (lookup (entriesIn n (part s at 256)) k)
   key-none h = sym (ap found (e ∙ ap (λ (t : List Entry). lookup t k) (entries-past n i (part s at 256) h)))

@@ -267,12 +267,6 @@ label-is c i b h =
     ap beValue (sym (part-part b (16 * i) 16 2 2 (omega arith)) ∙ ap (λ (d : List ℕ). part d 2 2) (h .bytes) ∙ label-bytes c (h .items))
     ∙ beValue-beBytes 2 (label c) (omega (arith, label-small c (h .ranged)))
 
-code-byte : (l : ℕ) (o : Op) (p : ℕ) → getD (encodeInstr (instr l o) p) 0 0 ≡ opFields l o p .code
-code-byte l o p = refl
-
-name-byte : (l : ℕ) (o : Op) (p : ℕ) → getD (encodeInstr (instr l o) p) 4 0 ≡ opFields l o p .a
-name-byte l o p = refl
-
 pub declares-is : (c : Instr) (i : ℕ) (b : List ℕ) → SpellsInstr c i b → (x : ℕ) → declares (op c) x ≡ (eqb (getD b (16 * i) 0) 16 && eqb (getD b (16 * i + 4) 0) x)
 declares-is (instr l o) i b h x =
     let z : 16 * i + 0 ≡ 16 * i = omega arith in

@@ -68,10 +68,6 @@ label-first c cs (suc l) z e =
     rw (eq-eqb (label c) (label c) refl, ne-eqb (label c) (suc l) (λ q. omega arith), ne-eqb (suc l) 0 (λ q. omega arith))
     (entered-first (suc l) cs (label c) 1 (omega arith) (and-right (leb 0 (label c)) (labelsAscend (label c) cs) e))
 
--- so label 0 goes to 0
-pub label-zero : (c : Instr) (cs : Code) → label c ≡ 0 → labelsAscend 0 (c ∷ cs) ≡ true → labelAt (c ∷ cs) 0 ≡ some 0
-label-zero c cs z e = label-first c cs 0 z e ∙ rw (eq-eqb (label c) 0 z)
-
 -- ---- where labels do decrease: the last entry, and not the first
 
 -- label 1 is entered from 0 and from 2

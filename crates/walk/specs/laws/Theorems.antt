@@ -15,7 +15,7 @@ use Rattle.walk.specs.Bound.{bound}
 use Rattle.walk.specs.laws.Bounded.{walk-within, walk-stops-within, plain-code}
 use Rattle.walk.specs.Runs.{needed, runs}
 use Rattle.walk.specs.laws.Simulation.Sound.{program-is, script}
-use Rattle.walk.specs.laws.Simulation.Portions.{Reach, reach, needed-some, needed-least, needed-most, once, runs-once, beyond, reached, still, answers, run-count}
+use Rattle.walk.specs.laws.Simulation.Portions.{Reach, reach, needed-some, needed-least, once, runs-once, beyond, reached, still, answers, run-count}
 use Rattle.lent.specs.Lists.{sum}
 use Rattle.walk.specs.Statements.{Bounds, Ended, Simulates, Lowers, Served}
 
@@ -45,14 +45,6 @@ simulation {t} {p} l =
     let r = leads l .there in
     let s = reached r in
     record { count = ap (λ (x : State). x .count) s; names = ap (λ (x : State). x .machine .names) s ∙ r .names; next = ap (λ (x : State). step p (x .machine)) s ∙ r .next }
-
--- one run that is given enough steps
-pub simulation-run : {t : Stmts} {p : Program} → Lowers t p → (n : ℕ) → needed (walk t) ≤ n → Ended (walk t) (run p n (started p))
-simulation-run l n h = ended (leads l .there) n h
-
--- one step more than the walk's is enough
-pub simulation-next : {t : Stmts} {p : Program} → Lowers t p → Ended (walk t) (run p (suc (walkCount (walk t))) (started p))
-simulation-next {t} l = simulation-run l (suc (walkCount (walk t))) (needed-most (walk t))
 
 -- ---- the bound
 

@@ -6,19 +6,15 @@ use lib.ListN.{length, take, drop}
 use borrow.Author.Needs.{needs}
 use Rattle.lent.specs.laws.Each.{each-of}
 use Rattle.lent.specs.Bytes.{AreBytes}
-use Rattle.ast.specs.File.{nodeCount, textCount, entries}
-use Rattle.ast.specs.laws.PlainFile.{Accepted, accepted, plain-file, plain-refused}
+use Rattle.ast.specs.File.{nodeCount, textCount}
+use Rattle.ast.specs.laws.PlainFile.{Accepted, accepted, plain-file, plain-refused, entries-slice}
 use Rattle.ast.specs.inner.Under as Rule
-use Rattle.ast.proofs.Cuts.{part-end}
 use Rattle.ast.proofs.Order.{entries-size}
 use Rattle.ast.proofs.plain.plain.Statement.{statement}
 use Rattle.ast.proofs.plain.plain.Tie as tie
 
 -- the entries as a slice of the file
 module _ (f : List ℕ) {count nodes : ℕ} (ec : count ≡ textCount f) (en : nodes ≡ nodeCount f) where
-  entries-slice : take ((3 + count + 2 * nodes) - (3 + count)) (drop (3 + count) f) ≡ entries f
-  entries-slice = rw (part-end (3 + count) (2 * nodes), ec, en)
-
   entries-end : Accepted f → 3 + count + 2 * nodes ≤ length f
   entries-end a = rw (ec, en) (a .inside)
 

@@ -35,10 +35,6 @@ pub needed-least : (o : Walked (Unit {0})) → walkCount o ≤ needed o
 needed-least (Fine n e u) = le-refl n
 needed-least (Halt n e r) = omega arith
 
-pub needed-most : (o : Walked (Unit {0})) → needed o ≤ suc (walkCount o)
-needed-most (Fine n e u) = omega arith
-needed-most (Halt n e r) = le-refl (suc n)
-
 -- a machine and the count of its steps
 abbrev pub at : Machine → ℕ → State
 at m k = record { machine = m; count = k }
