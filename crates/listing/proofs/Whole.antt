@@ -27,7 +27,7 @@ use Rattle.text.specs.Put.{Put}
 use Rattle.text.specs.laws.PutLaws.{put-then, put-within}
 use Rattle.ops.specs.ProgramText.{programText}
 use Rattle.ending.specs.Ending.{ranText}
-use Rattle.ending.specs.laws.Left.{Left}
+use Rattle.ending.specs.laws.Left.{RunLeft}
 use Rattle.ending.specs.inner.EndBytes.{ranIn}
 use Rattle.ending.specs.laws.LeftLaws.{left-text, run-left}
 use Rattle.engine.specs.Listing.{boundLine, refusedText, loweredText, readText, listing}
@@ -59,7 +59,7 @@ pub record Made (file program state told : List ℕ) : Type 0 where
   pub lowers : lower tree ≡ lowered made
   pub size : programSize ≤ length program
   pub back : decodeProgram program ≡ some made
-  pub left : Left made (run made 100000 (started made)) state told
+  pub left : RunLeft made (run made 100000 (started made)) state told
 
 few : 100000 < 2 ^ 64
 few = omega arith
@@ -93,8 +93,8 @@ calls-made file program state out {n} {q} {a} {s} {b} {s'} {out'} ab hp hs hr e 
       size = sz;
       back = bk;
       left =
-          subst (λ (x : List ℕ). Left p r x out') (sym (ap (λ (x : RunAnswered). x .state) w))
-          (subst (λ (x : List ℕ). Left p r (over (encodeState (r .state)) s) x) (sym (ap (λ (x : RunAnswered). x .report) w ∙ ap (λ (c : ℕ). over (report p (r .answer) (r .state) c) out) all))
+          subst (λ (x : List ℕ). RunLeft p r x out') (sym (ap (λ (x : RunAnswered). x .state) w))
+          (subst (λ (x : List ℕ). RunLeft p r (over (encodeState (r .state)) s) x) (sym (ap (λ (x : RunAnswered). x .report) w ∙ ap (λ (c : ℕ). over (report p (r .answer) (r .state) c) out) all))
           (run-left p 100000 (drop (length (encodeState (r .state))) s) (drop (length (report p (r .answer) (r .state) (r .state .count))) out) (k .within) (k .numbers) few));
     }
 

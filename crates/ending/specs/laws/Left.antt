@@ -13,7 +13,7 @@ use Rattle.tables.specs.Limits.{programOk}
 use Rattle.vm.specs.Storable.{Storable, WholeDetails}
 
 -- the run r from start on, its state and its report, whatever lies behind them
-pub record Left (p : Program) (r : Ran) (state told : List ℕ) : Type 0 where
+pub record RunLeft (p : Program) (r : Ran) (state told : List ℕ) : Type 0 where
   pub within : programOk p ≡ true
   pub storable : Storable (length (p .code)) (r .state)
   pub whole : (e : RuntimeErr) → r .answer ≡ Stopped e → WholeDetails e

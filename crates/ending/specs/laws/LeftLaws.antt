@@ -29,7 +29,7 @@ use Rattle.report.specs.Report.{signedBytes, reportBytes, report}
 use Rattle.text.specs.Text.{ascii, decimal, words, lineOf}
 use Rattle.ending.specs.Ending.{signed, endLine, nameLines, ranText}
 use Rattle.ending.specs.inner.EndBytes.{signedOf, detailCount, detailsIn, stopIn, endIn, ranIn}
-use Rattle.ending.specs.laws.Left.{Left}
+use Rattle.ending.specs.laws.Left.{RunLeft}
 use Rattle.opc.specs.Limits.{OpFits}
 use Rattle.tables.specs.Limits.{programOk}
 use Rattle.vm.specs.Storable.{WholeDetails}
@@ -139,7 +139,7 @@ ones-in (suc k) n h = ones-step n ∙ ap (λ (x : ℕ). n % 2 + x) (ones-in k (n
 
 -- ---- the whole
 
-module _ {p : Program} {r : Ran} {state out : List ℕ} (h : Left p r state out) where
+module _ {p : Program} {r : Ran} {state out : List ℕ} (h : RunLeft p r state out) where
   decoded : decodeState state ≡ r .state
   decoded = ap decodeState (h .state-is) ∙ state-behind (length (p .code)) (r .state) (h .storable) (h .behind-state)
 
@@ -174,7 +174,7 @@ module _ {p : Program} {r : Ran} {state out : List ℕ} (h : Left p r state out)
 -- ---- a run from start on, of a program that is accepted
 
 pub run-left : (p : Program) (k : ℕ) (state told : List ℕ) → programOk p ≡ true → Each (λ (i : Instr). OpFits (op i)) (p .code) → k < 2 ^ 64
-    → let r = run p k (started p) in Left p r (encodeState (r .state) ++ state) (report p (r .answer) (r .state) (r .state .count) ++ told)
+    → let r = run p k (started p) in RunLeft p r (encodeState (r .state) ++ state) (report p (r .answer) (r .state) (r .state .count) ++ told)
 run-left p k state told o f l =
     let g = started-storable p o in
     record {
