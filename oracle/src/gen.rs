@@ -29,7 +29,7 @@ pub fn items(kind: &str, seed: u64, count: usize) -> Result<Vec<Vec<u8>>, String
 /// The directed list of a kind.
 pub fn directed(kind: &str, seed: u64) -> Result<Vec<Vec<u8>>, String> {
     Ok(match kind {
-        "plain" | "large" | "texts" | "routines" => Vec::new(),
+        "plain" | "large" | "texts" | "routines" | "rows" => Vec::new(),
         "small" => gen_small::all(SMALL).iter().map(file_of).collect(),
         "values" => gen_values::all().iter().map(file_of).collect(),
         "other" => gen_other::all().iter().map(file_of).collect(),
@@ -61,6 +61,7 @@ pub fn seeded(kind: &str, rng: &mut Rng) -> Vec<u8> {
         "damaged" => gen_damaged::scratched(rng),
         "programs" => gen_programs::random(rng).into_bytes(),
         "routines" => gen_programs::routine(rng).into_bytes(),
+        "rows" => gen_programs::rows(rng).into_bytes(),
         "large" => gen_large::file(rng),
         "texts" => unused_texts(rng),
         "values" => file_of(&gen_values::numbers(rng)),
@@ -99,6 +100,6 @@ fn write_item(bytes: &[u8], to: &str, kind: &str, seed: u64, item: usize) -> std
         return out.write_all(bytes);
     }
     fs::create_dir_all(to)?;
-    let ending = if matches!(kind, "programs" | "routines") { "program" } else { "tree" };
+    let ending = if matches!(kind, "programs" | "routines" | "rows") { "program" } else { "tree" };
     fs::write(format!("{to}/{kind}-{seed}-{item:05}.{ending}"), bytes)
 }

@@ -457,6 +457,81 @@ fn operation(rng: &mut Rng, label: usize) -> String {
     }
 }
 
+/// A program of rows of instructions as the lowering emits them together, over so few registers and
+/// names that they often meet, on values that mostly are numbers; with a loop around them.
+pub fn rows(rng: &mut Rng) -> String {
+    let mut all = Vec::new();
+    for name in 1..4 {
+        all.push((0, format!("Stc {} {name}", row_value(rng))));
+    }
+    all.push((0, format!("Stc {LIST} 4")));
+    for register in 0..4 {
+        all.push((0, format!("Ldc {register} {}", row_value(rng))));
+    }
+    let mut label = 1;
+    for _ in 0..rng.between(2, 7) {
+        all.extend(row(rng, label).into_iter().map(|op| (label, op)));
+        label += rng.below(2);
+    }
+    all.push((label, format!("Jmpa {}", rng.below(label + 1))));
+    let steps = rng.pick(&[4, 9, 40, 100, 300]);
+    text(steps, 0, &all)
+}
+
+fn row_value(rng: &mut Rng) -> String {
+    match rng.below(10) {
+        0 => rng.pick(&LITERALS).to_string(),
+        1 => rng.pick(&["Bl:0", "Bl:1"]).to_string(),
+        2 => rng.pick(&["Num:7ff8000000000000", "Num:8000000000000000"]).to_string(),
+        _ => format!("Num:{:016x}", (rng.below(5) as f64).to_bits()),
+    }
+}
+
+/// One row; a register or a name of it is at times another than the lowering's.
+fn row(rng: &mut Rng, label: usize) -> Vec<String> {
+    let mut r = [0; 4];
+    r.iter_mut().for_each(|r| *r = rng.below(5));
+    let [a, b, c, d] = r;
+    let (x, y, z) = (rng.between(1, 4), rng.between(1, 4), rng.between(1, 4));
+    let (left, right) = if rng.chance(85) { (a, b) } else { (c, d) };
+    let source = if rng.chance(85) { c } else { d };
+    let kind = if rng.chance(80) { rng.pick(&BINARY[..11]) } else { rng.pick(&BINARY) };
+    let to = rng.below(label + 2);
+    let literal = row_value(rng);
+    let jump = format!("JmpCnd {} {source} {to}", rng.pick(&["Jmpt", "Jmpf"]));
+    let mut out = match rng.below(8) {
+        0 | 1 => vec![format!("Ldn {a} {x}"), format!("Ldn {b} {y}")],
+        2 | 3 => vec![format!("Ldn {a} {x}"), format!("Ldc {b} {literal}")],
+        4 => vec![format!("Ldn {b} {y}")],
+        5 => vec![format!("Ldc {b} {literal}")],
+        6 => {
+            return vec![
+                format!("Ldn {a} {x}"),
+                format!("Ldav {} {left} {c}", rng.pick(&[4, 4, y])),
+                format!("Str {source} {z}"),
+            ]
+        }
+        _ => {
+            let less = if rng.chance(85) { "Lt" } else { "LtEq" };
+            return vec![
+                format!("Incrr {a}"),
+                format!("Str {left} {z}"),
+                format!("Binary {less} {left} {b} {c}"),
+                jump,
+            ];
+        }
+    };
+    out.push(match rng.below(6) {
+        0 => format!("Binary {} {left} {right} {c}", rng.pick(&BINARY[11..])),
+        1 => format!("Unary {} {left} {c}", rng.pick(&["Lneg", "Nneg"])),
+        _ => format!("Binary {kind} {left} {right} {c}"),
+    });
+    if rng.chance(60) {
+        out.push(jump);
+    }
+    out
+}
+
 /// A program that mostly runs to its end: declared functions, registers and names that are filled, a
 /// loop, calls, and operations on values of the kind that they want.
 pub fn routine(rng: &mut Rng) -> String {

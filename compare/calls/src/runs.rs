@@ -283,7 +283,8 @@ pub fn generated(
     count: u64,
     figures: &mut Figures,
 ) -> Result<(), String> {
-    let kinds = ["plain", "other", "values", "texts", "large", "programs", "programs", "routines"];
+    let kinds =
+        ["plain", "other", "values", "texts", "large", "programs", "rows", "routines", "rows"];
     let mut item = 0;
     while figures.programs < count {
         let mut rng = Rng::new(seed, item);
@@ -292,7 +293,7 @@ pub fn generated(
         item += 1;
         let bytes = gen::seeded(kind, &mut rng);
         let code = match kind {
-            "programs" | "routines" => code_of_text(&bytes)?,
+            "programs" | "routines" | "rows" => code_of_text(&bytes)?,
             _ => lower_file(&bytes).ok().map(|(_, lowered)| Code::of_lowered(lowered)),
         };
         if let Some(code) = code {

@@ -1,5 +1,5 @@
 -- Answers of the pass over bytes agree with what is left of the nodes.
--- Assumes nothing.
+--
 use mathlib.Core.Path.{_≡_, refl, sym, ap, _∙_}
 use mathlib.Core.Bool.{true}
 use mathlib.Core.List.{List, [], _∷_}

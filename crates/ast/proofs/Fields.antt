@@ -1,5 +1,5 @@
 -- One node's field, at the front of the bodies.
--- Assumes nothing.
+--
 use mathlib.Core.Path.{_≡_, refl, sym, ap}
 use mathlib.Core.Bool.{Bool, true, _&&_, and-true}
 use mathlib.Core.List.{List, [], _∷_}

@@ -1,4 +1,4 @@
--- What the calls answer, test by test. Assumes nothing.
+-- What the calls answer, test by test.
 use mathlib.Core.Path.{_≡_, refl, sym, ap, ap₂, _∙_, subst}
 use mathlib.Core.Bool.{Bool, true, false, cond, _&&_}
 use mathlib.Core.List.{List, [], _++_, append-nil}

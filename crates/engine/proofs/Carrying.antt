@@ -1,4 +1,4 @@
--- A list of calls, carried out one by one. Assumes nothing.
+-- A list of calls, carried out one by one.
 use mathlib.Core.Path.{_≡_, refl, sym, ap, ap₂, _∙_, subst}
 use mathlib.Core.Bool.{Bool, true, false, cond}
 use mathlib.Core.List.{List}

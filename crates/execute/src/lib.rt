@@ -280,7 +280,7 @@ pub fn reg(r: usize) -> usize
     r * 256
 }
 
-fn slot(x: usize) -> usize
+pub fn slot(x: usize) -> usize
     requires { ⌜ x < 64 ⌝ }
     ensures { λ a. ⌜ a ≡ 24576 + x * 256 ⌝ }
 {
@@ -833,11 +833,12 @@ fn declare(state: &mut [u8], loc: Loc, name: usize) -> Step
 
 // ---- `execute`
 
-pub fn execute(program: &[u8], state: &mut [u8], loc: Loc) -> Step
-    requires { ⌜ ProgramReady (now program) (programIn (now program)) × Canon (length (programIn (now program) .code)) (now state) loc × (loc .pos < length (programIn (now program) .code)) ⌝ }
+// The operation of the record at the position; code is its number.
+pub fn execute(program: &[u8], state: &mut [u8], loc: Loc, code: u16) -> Step
+    requires { ⌜ ProgramReady (now program) (programIn (now program)) × Canon (length (programIn (now program) .code)) (now state) loc × (loc .pos < length (programIn (now program) .code)) × (code ≡ recordAt (now program) (loc .pos) .code) ⌝ }
     ensures { λ r. ⌜ Stepped (now (state .entry)) (now (state .exit)) (Machine.step (programIn (now (program .entry))) (view (now (state .entry)) loc)) r ⌝ }
 {
-    let op = opc::fetch(program, loc.pos);
+    let op = opc::fetch(program, code, loc.pos);
     match op {
         Op::Binary {
             kind,

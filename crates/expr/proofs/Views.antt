@@ -1,4 +1,4 @@
--- Which kind a node has, and which tree begins with it. Assumes nothing.
+-- Which kind a node has, and which tree begins with it.
 use Prim.Native.Nat.{ℕ, _≤_}
 use mathlib.Core.Path.{_≡_, refl}
 use mathlib.Core.Bool.{true, false}

@@ -1,4 +1,4 @@
--- The line of the bound, or of none. Assumes nothing.
+-- The line of the bound, or of none.
 use mathlib.Core.Path.{_≡_, sym, ap, _∙_, subst}
 use mathlib.Core.Bool.{Bool, true, cond}
 use mathlib.Core.List.{List, _++_}

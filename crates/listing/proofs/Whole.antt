@@ -1,4 +1,4 @@
--- The listing by the calls that make it: a refused file's number, or what lower, start and a run of 100,000 steps leave. Assumes nothing.
+-- The listing by the calls that make it: a refused file's number, or what lower, start and a run of 100,000 steps leave.
 use mathlib.Core.Path.{_≡_, refl, sym, ap, _∙_, subst}
 use mathlib.Core.Bool.{Bool, cond}
 use mathlib.Core.List.{List, _++_}

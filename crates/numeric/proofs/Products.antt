@@ -1,4 +1,4 @@
--- Remainders of products and of powers of 2, without a division for each: laws over plain numbers. Assumes nothing.
+-- Remainders of products and of powers of 2, without a division for each: laws over plain numbers.
 use mathlib.Core.Path.{_≡_, sym, ap, ap₂, _∙_}
 use Prim.Native.Nat.{ℕ, suc, _+_, _-_, _*_, _/_, _%_, _^_, _≤_, _<_}
 use native.Mathlib.Nat.{mul-comm, mul-assoc, mul-le-mul-left, mul-le-mul-right, mul-le-mul, mod-mod, mod-eq-of-lt, mod-add-mod, add-sub-of-le, add-mul-mod-self-right, div-add-mod', div-mul-le-self, lt-mul-div-succ, div-lt-iff-lt-mul, pow-succ'}

@@ -1,4 +1,4 @@
--- A table while it is made: one entry is written, or none, for each record. Assumes nothing.
+-- A table while it is made: one entry is written, or none, for each record.
 use mathlib.Core.Path.{_≡_, refl, sym, ap, ap₂, _∙_, subst}
 use mathlib.Core.Bool.{Bool, true, false, cond, _&&_}
 use mathlib.Core.List.{List}

@@ -1,4 +1,4 @@
--- Whether a buffer holds a program: `decodeProgram` against the tests of the code. Assumes nothing.
+-- Whether a buffer holds a program: `decodeProgram` against the tests of the code.
 use mathlib.Core.Path.{_≡_, refl, sym, ap, ap₂, _∙_, subst}
 use mathlib.Core.Bool.{Bool, true, false, _&&_, and-true, and-false}
 use mathlib.Core.List.{List, _∷_}

@@ -1,4 +1,4 @@
--- Whether a record has an instruction: `decodeInstr` against the tests of the code. Assumes nothing.
+-- Whether a record has an instruction: `decodeInstr` against the tests of the code.
 use mathlib.Core.Path.{_≡_, refl, sym, ap, ap₂, _∙_, subst}
 use mathlib.Core.Bool.{Bool, true, false, cond, not, _&&_, _||_, and-true, and-false, and-comm, and-assoc}
 use mathlib.Core.List.{List, [], _∷_}

@@ -1,4 +1,4 @@
--- The stored tables against those of the code: `labelBytes` and `functionBytes`. Assumes nothing.
+-- The stored tables against those of the code: `labelBytes` and `functionBytes`.
 use mathlib.Core.Path.{_≡_, refl, sym, ap, ap₂, _∙_}
 use mathlib.Core.Bool.{Bool, true, false, cond, not, _&&_, and-assoc}
 use mathlib.Core.List.{List, [], _∷_, _++_}

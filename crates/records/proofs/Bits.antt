@@ -1,4 +1,4 @@
--- Eight bytes tested at once, by a mask, against the tests of each byte. Assumes nothing.
+-- Eight bytes tested at once, by a mask, against the tests of each byte.
 use mathlib.Core.Path.{_≡_, refl, sym, ap, _∙_}
 use mathlib.Core.Bool.{Bool, true, false, cond, _&&_, _||_, and-true}
 use mathlib.Core.List.{List, [], _∷_}

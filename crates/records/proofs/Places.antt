@@ -1,4 +1,4 @@
--- The fields of a record and of an entry of the pool, at their places in the buffer. Assumes nothing.
+-- The fields of a record and of an entry of the pool, at their places in the buffer.
 use mathlib.Core.Path.{_≡_, sym, ap, _∙_}
 use mathlib.Core.List.{List}
 use Prim.Native.Nat.{ℕ, _+_, _<_, _≤_}

@@ -1,4 +1,4 @@
--- Steps through the pool. Assumes nothing.
+-- Steps through the pool.
 use mathlib.Core.Path.{_≡_, refl, sym, ap, ap₂, _∙_}
 use mathlib.Core.Bool.{Bool, true, false, cond, _&&_, _||_, and-true}
 use mathlib.Core.List.{List}

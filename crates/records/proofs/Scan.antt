@@ -1,4 +1,4 @@
--- Loops that look at every index: the answer of the whole is the answer so far, and that of what is left. Assumes nothing.
+-- Loops that look at every index: the answer of the whole is the answer so far, and that of what is left.
 use mathlib.Core.Path.{_≡_, refl, sym, ap, ap₂, _∙_, subst}
 use mathlib.Core.Bool.{Bool, true, false, _&&_}
 use Prim.Native.Nat.{ℕ, zero, suc, _+_, _-_, _≤_, _<_}

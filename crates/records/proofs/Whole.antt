@@ -1,4 +1,4 @@
--- A record's bytes, eight at a time, against the tests of its fields. Assumes nothing.
+-- A record's bytes, eight at a time, against the tests of its fields.
 use mathlib.Core.Path.{_≡_, refl, sym, ap, ap₂, _∙_}
 use mathlib.Core.Bool.{Bool, true, false, cond, not, _&&_, _||_, and-true, and-assoc}
 use mathlib.Core.List.{List, [], _∷_}

@@ -1,5 +1,5 @@
 -- Plain scripts in files: a file that is read is plain where its entries are allowed (Under.antt); a refused one is not plain.
--- Assumes nothing.
+--
 use mathlib.Core.Path.{_≡_, refl, ap, _∙_}
 use mathlib.Core.Bool.{Bool, false}
 use mathlib.Core.List.{List}

@@ -1,4 +1,4 @@
--- `calls::run_on` meets its contract. Assumes nothing.
+-- `calls::run_on` meets its contract.
 use borrow.Author.Needs.{needs}
 use Rattle.calls.proofs.Answered.{programmed, program-ready, start-small, run-refused, run-overflows, run-written, used-canon, counted-so}
 use Rattle.lent.specs.laws.Parts.{length-part, splice-lent}

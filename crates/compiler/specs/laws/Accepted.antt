@@ -1,5 +1,5 @@
 -- What is lowered is accepted: a tree within the limits, of at most 1,024 nodes, that is not refused gives a program whose buffer is read back, so that
--- neither start nor run answers 8 on it. Document 01, "Numbers given for the input". Assumes nothing.
+-- neither start nor run answers 8 on it. Document 01, "Numbers given for the input".
 use mathlib.Core.Path.{_≡_, refl, ap, _∙_, subst}
 use mathlib.Core.Bool.{Bool, true, false, cond}
 use mathlib.Core.List.{List, [], _∷_, _++_}

@@ -1,6 +1,6 @@
 -- One induction over what the lowering emits, for every tree: the registers taken, the items held, labels that never decrease, at places that satisfy Q; and
 -- where Z holds and says that the tree is within the limits, instructions in range. Accepted has it of trees within the limits, the walk of the loops around an
--- instruction and of plain scripts. Assumes nothing.
+-- instruction and of plain scripts.
 use mathlib.Core.Path.{_≡_, refl, ap, _∙_}
 use mathlib.Core.Bool.{Bool, true, false, cond}
 use mathlib.Core.List.{List, [], _∷_, _++_, map}

@@ -1,5 +1,5 @@
 -- Every tree that is read from a file of bytes is within the limits that the lowering counts on (Within): texts below 64, at most 24 items in an
--- array, at most 255 parameters and arguments, since a child count is one byte. Document 01, "The tree file". Assumes nothing.
+-- array, at most 255 parameters and arguments, since a child count is one byte. Document 01, "The tree file".
 use Prim.Native.Nat.{ℕ, suc, _+_, _*_, _-_, _≤_, _<_}
 use native.Mathlib.Omega.{arith}
 use mathlib.Core.Path.{_≡_, subst}

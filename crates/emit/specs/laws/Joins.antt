@@ -1,4 +1,4 @@
--- Events carried out, as refusal, records and pool of what they push. Assumes nothing.
+-- Events carried out, as refusal, records and pool of what they push.
 use Prim.Native.Nat.{ℕ, suc, _+_, _*_, _≤_, _<_}
 use mathlib.Core.Path.{_≡_, refl, sym, ap, _∙_}
 use mathlib.Core.Bool.{Bool, true, false, cond}

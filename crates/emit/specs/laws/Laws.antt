@@ -1,4 +1,4 @@
--- Laws of events that are carried out: appended, after a refusal, the register and the room that they leave. Assumes nothing.
+-- Laws of events that are carried out: appended, after a refusal, the register and the room that they leave.
 use Prim.Native.Nat.{ℕ, _+_, _*_, _≤_, _<_}
 use mathlib.Core.Path.{_≡_, refl, sym, ap, _∙_}
 use mathlib.Core.Bool.{Bool, true, false, cond, not, _&&_, _||_}

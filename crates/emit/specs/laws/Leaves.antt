@@ -1,4 +1,4 @@
--- Leaves: an instruction that loads a value. Assumes nothing.
+-- Leaves: an instruction that loads a value.
 use Prim.Native.Nat.{ℕ}
 use mathlib.Core.Path.{_≡_, ap}
 use mathlib.Core.Bool.{Bool, true, false, cond}

@@ -1,4 +1,4 @@
--- A list of parts lowered in a loop: the answer of what is left is the answer of the whole. Assumes nothing.
+-- A list of parts lowered in a loop: the answer of what is left is the answer of the whole.
 use Prim.Native.Nat.{ℕ, _≤_}
 use mathlib.Core.Bool.{Bool}
 use mathlib.Core.List.{List}

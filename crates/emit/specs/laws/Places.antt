@@ -1,4 +1,4 @@
--- Parts of a tree, one after the other: what is made of the first, then of the next. Assumes nothing.
+-- Parts of a tree, one after the other: what is made of the first, then of the next.
 use Prim.Native.Nat.{ℕ, _+_, _-_, _≤_}
 use mathlib.Core.Path.{_≡_, refl, ap, sym, _∙_}
 use mathlib.Core.Bool.{Bool}

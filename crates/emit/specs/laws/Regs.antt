@@ -1,4 +1,4 @@
--- The registers that the events of an expression and of parameters take. Assumes nothing.
+-- The registers that the events of an expression and of parameters take.
 use Prim.Native.Nat.{ℕ}
 use mathlib.Core.Path.{_≡_}
 use Rattle.opc.specs.laws.RecordRange.{Any}

@@ -1,4 +1,4 @@
--- A record that is written is rewritten: before the later events or after them. Assumes nothing.
+-- A record that is written is rewritten: before the later events or after them.
 use Prim.Native.Nat.{ℕ, _+_, _*_, _≤_, _<_}
 use mathlib.Core.Path.{_≡_, refl, sym, ap, _∙_}
 use mathlib.Core.Bool.{true}

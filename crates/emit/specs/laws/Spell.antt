@@ -1,4 +1,4 @@
--- Parts of the contents and the bodies that spell nodes. Assumes nothing.
+-- Parts of the contents and the bodies that spell nodes.
 use Prim.Native.Nat.{ℕ, _+_, _-_, _≤_}
 use mathlib.Core.Path.{_≡_, refl, ap, sym, _∙_}
 use mathlib.Core.Bool.{true, false}

@@ -1,4 +1,4 @@
--- Laws of writing the end line and the names. Assumes nothing.
+-- Laws of writing the end line and the names.
 use mathlib.Core.Path.{_≡_, refl, sym, ap, ap₂, _∙_, subst}
 use mathlib.Core.Bool.{Bool, true, false, cond}
 use mathlib.Core.List.{List, [], _∷_, _++_, map, append-nil}

@@ -1,4 +1,4 @@
--- What a run leaves in the buffers tells its text. Assumes nothing.
+-- What a run leaves in the buffers tells its text.
 use mathlib.Core.Path.{_≡_, refl, ap, ap₂, _∙_}
 use mathlib.Core.Bool.{Bool, true, false, cond}
 use mathlib.Core.List.{List, [], _∷_, _++_, map}

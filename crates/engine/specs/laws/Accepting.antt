@@ -1,4 +1,4 @@
--- What lower accepts of a file of bytes, start accepts: a lowered program is never 8. Document 01, "Numbers given for the input". Assumes nothing.
+-- What lower accepts of a file of bytes, start accepts: a lowered program is never 8. Document 01, "Numbers given for the input".
 use mathlib.Core.Path.{_≡_, refl, ap}
 use mathlib.Core.Bool.{Bool, true, false, cond}
 use mathlib.Core.List.{List}

@@ -1,4 +1,4 @@
--- The calls fit together: what lower writes is never refused with 8. Document 01, "Numbers given for the input". Assumes nothing.
+-- The calls fit together: what lower writes is never refused with 8. Document 01, "Numbers given for the input".
 use mathlib.Core.Path.{_≡_, ap, _∙_}
 use mathlib.Core.Bool.{Bool, cond}
 use mathlib.Core.List.{List}

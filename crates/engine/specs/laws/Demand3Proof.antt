@@ -1,5 +1,5 @@
 -- Demand 3 on bytes, over the definitions of the four calls: one claim about every list of calls of run and reading a name, refused ones too, that follow
--- lower and start of a plain script. Assumes nothing.
+-- lower and start of a plain script.
 use mathlib.Core.Path.{_≡_, refl, sym, ap, _∙_}
 use mathlib.Core.Bool.{Bool, true, false, cond}
 use mathlib.Core.List.{List}

@@ -1,5 +1,5 @@
 -- A list of calls on the bytes of a started state does what its accepted runs do on the state itself: the way from bytes to walk's lists of runs.
--- Document 01, "The walk": "a state so lent is 10 there only for the count, and a refused call gave no steps". Assumes nothing.
+-- Document 01, "The walk": "a state so lent is 10 there only for the count, and a refused call gave no steps".
 use mathlib.Core.Path.{_≡_, refl, sym, ap, ap₂, _∙_, subst}
 use mathlib.Core.Bool.{Bool, true, false, cond}
 use mathlib.Core.List.{List, [], _∷_, _++_}

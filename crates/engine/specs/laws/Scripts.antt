@@ -1,4 +1,4 @@
--- What is proved of a file that is read as a plain script and lowers: the theorems of walk, from the file's bytes on. Assumes nothing.
+-- What is proved of a file that is read as a plain script and lowers: the theorems of walk, from the file's bytes on.
 use Prim.Native.Nat.{ℕ, _≤_}
 use native.Mathlib.Omega.{arith}
 use mathlib.Core.Path.{_≡_}

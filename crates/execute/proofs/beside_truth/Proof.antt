@@ -1,4 +1,4 @@
--- `execute::beside_truth` meets its contract. Assumes nothing.
+-- `execute::beside_truth` meets its contract.
 use mathlib.Core.Path.{refl, sym, ap, _∙_}
 use mathlib.Core.Option.{some}
 use Rattle.sifv.specs.Value.{Bl, One}

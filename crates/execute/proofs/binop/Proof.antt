@@ -1,4 +1,4 @@
--- `execute::binop` meets its contract. Assumes nothing.
+-- `execute::binop` meets its contract.
 use mathlib.Core.Path.{sym, ap, _∙_}
 use Rattle.sifv.specs.inner.Seen.{seen, kindIn}
 use Rattle.vm.specs.RuntimeErr.{RegNoContents}

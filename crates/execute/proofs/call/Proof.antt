@@ -1,4 +1,4 @@
--- `execute::call` meets its contract. Assumes nothing.
+-- `execute::call` meets its contract.
 use mathlib.Core.Path.{refl, ap}
 use Rattle.execute.specs.laws.Stacks.{called-none, called-full, called-on}
 use Rattle.execute.specs.declared.Step.the-variants as step

@@ -1,4 +1,4 @@
--- `execute::declare` meets its contract. Assumes nothing.
+-- `execute::declare` meets its contract.
 use mathlib.Core.Path.{ap}
 use Rattle.execute.specs.laws.Programs.{declared-law}
 use Rattle.execute.specs.declared.Step.the-variants as step

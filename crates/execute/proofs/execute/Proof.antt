@@ -1,4 +1,4 @@
--- `execute::execute` meets its contract. Assumes nothing.
+-- `execute::execute` meets its contract.
 use mathlib.Core.Path.{sym, ap, _∙_}
 use native.Mathlib.Omega.{arith}
 use lib.ListN.{length}

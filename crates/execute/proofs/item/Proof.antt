@@ -1,4 +1,4 @@
--- `execute::item` meets its contract. Assumes nothing.
+-- `execute::item` meets its contract.
 use mathlib.Core.Path.{sym, ap, _∙_}
 use native.Mathlib.Omega.{arith}
 use mathlib.Core.Option.{Option}

@@ -1,4 +1,4 @@
--- `execute::jump` meets its contract. Assumes nothing.
+-- `execute::jump` meets its contract.
 use mathlib.Core.Path.{refl, ap}
 use Rattle.execute.specs.laws.Programs.{jumped-none, jumped-some}
 use Rattle.execute.specs.declared.Step.the-variants as step

@@ -1,4 +1,4 @@
--- `execute::lneg` meets its contract. Assumes nothing.
+-- `execute::lneg` meets its contract.
 use mathlib.Core.Path.{sym, ap, _∙_}
 use mathlib.Core.Option.{Option}
 use Rattle.sifv.specs.Value.{Value}

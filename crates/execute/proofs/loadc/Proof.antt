@@ -1,4 +1,4 @@
--- `execute::loadc` meets its contract. Assumes nothing.
+-- `execute::loadc` meets its contract.
 use mathlib.Core.Path.{refl, subst}
 use Prim.Native.Nat.{ℕ, _<_}
 use native.Mathlib.Omega.{arith}

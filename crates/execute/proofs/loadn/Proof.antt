@@ -1,4 +1,4 @@
--- `execute::loadn` meets its contract. Assumes nothing.
+-- `execute::loadn` meets its contract.
 use mathlib.Core.Path.{refl, ap}
 use Prim.Native.Nat.{_+_, _*_}
 use native.Mathlib.Omega.{arith}

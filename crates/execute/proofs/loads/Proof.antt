@@ -1,4 +1,4 @@
--- `execute::loads` meets its contract. Assumes nothing.
+-- `execute::loads` meets its contract.
 use mathlib.Core.Path.{refl, ap, _∙_}
 use Prim.Native.Nat.{ℕ}
 use mathlib.Core.List.{_++_}

@@ -1,5 +1,5 @@
 use Prim.Native.Nat.{_+_, _*_}
--- `execute::mv` meets its contract. Assumes nothing.
+-- `execute::mv` meets its contract.
 use mathlib.Core.Path.{refl}
 use native.Mathlib.Omega.{arith}
 use Rattle.execute.specs.inner.View.{regsOf}

@@ -1,4 +1,4 @@
--- `execute::newarrv` meets its contract. Assumes nothing.
+-- `execute::newarrv` meets its contract.
 use mathlib.Core.Path.{refl, sym, ap, _∙_}
 use mathlib.Core.Option.{Option}
 use Rattle.sifv.specs.Value.{Value}

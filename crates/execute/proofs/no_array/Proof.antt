@@ -1,4 +1,4 @@
--- `execute::no_array` meets its contract. Assumes nothing.
+-- `execute::no_array` meets its contract.
 use borrow.Author.Tests.{eq-eqb, ne-eqb}
 use borrow.Author.Needs.{needs}
 use Rattle.execute.proofs.no_array.Statement.{statement}

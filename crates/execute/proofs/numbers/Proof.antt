@@ -1,4 +1,4 @@
--- `execute::numbers` meets its contract. Assumes nothing.
+-- `execute::numbers` meets its contract.
 use mathlib.Core.Path.{ap, _∙_}
 use lib.Ieee.{Float}
 use Rattle.execute.specs.inner.View.{ok, err}

@@ -1,4 +1,4 @@
--- `execute::others` meets its contract. Assumes nothing.
+-- `execute::others` meets its contract.
 use mathlib.Core.Path.{refl, ap}
 use mathlib.Core.List.{[]}
 use Rattle.sifv.specs.Value.{One, Null, Arr, Tab, Num, Str}

@@ -1,4 +1,4 @@
--- `execute::pop` meets its contract. Assumes nothing.
+-- `execute::pop` meets its contract.
 use mathlib.Core.Path.{refl, ap}
 use Prim.Native.Nat.{_+_, _*_, _-_, _<_}
 use native.Mathlib.Omega.{arith}

@@ -1,4 +1,4 @@
--- `execute::push` meets its contract. Assumes nothing.
+-- `execute::push` meets its contract.
 use mathlib.Core.Path.{refl, ap}
 use native.Mathlib.Omega.{arith}
 use Rattle.execute.specs.laws.Acts.{reg-formed}

@@ -1,4 +1,4 @@
--- `execute::put_array` meets its contract. Assumes nothing.
+-- `execute::put_array` meets its contract.
 use mathlib.Core.Path.{_≡_, refl, _∙_}
 use mathlib.Core.List.{[]}
 use Prim.Native.Nat.{_+_, _-_, _*_, _≤_}

@@ -1,4 +1,4 @@
--- `execute::put_contents` meets its contract. Assumes nothing.
+-- `execute::put_contents` meets its contract.
 use mathlib.Core.Path.{sym, ap, ap₂, _∙_}
 use mathlib.Core.Option.{some}
 use Prim.Native.Nat.{ℕ}

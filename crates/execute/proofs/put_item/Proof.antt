@@ -1,4 +1,4 @@
--- `execute::put_item` meets its contract. Assumes nothing.
+-- `execute::put_item` meets its contract.
 use mathlib.Core.Path.{refl, _∙_}
 use Prim.Native.Nat.{_+_, _*_}
 use native.Mathlib.Omega.{arith}

@@ -1,4 +1,4 @@
--- `execute::ret` meets its contract. Assumes nothing.
+-- `execute::ret` meets its contract.
 use mathlib.Core.Path.{refl, ap}
 use Prim.Native.Nat.{_-_}
 use native.Mathlib.Omega.{arith}

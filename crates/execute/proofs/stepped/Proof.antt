@@ -1,4 +1,4 @@
--- `execute::stepped` meets its contract. Assumes nothing.
+-- `execute::stepped` meets its contract.
 use mathlib.Core.Path.{ap}
 use Rattle.execute.specs.declared.Step.the-variants as step
 use borrow.Author.Needs.{needs}

@@ -1,4 +1,4 @@
--- `execute::store` meets its contract. Assumes nothing.
+-- `execute::store` meets its contract.
 use mathlib.Core.Path.{refl, sym, ap, _∙_}
 use native.Mathlib.Omega.{arith}
 use mathlib.Core.Option.{some}

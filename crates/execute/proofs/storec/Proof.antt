@@ -1,4 +1,4 @@
--- `execute::storec` meets its contract. Assumes nothing.
+-- `execute::storec` meets its contract.
 use mathlib.Core.Path.{refl, subst}
 use Prim.Native.Nat.{ℕ, _<_}
 use native.Mathlib.Omega.{arith}

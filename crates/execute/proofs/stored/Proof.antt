@@ -1,4 +1,4 @@
--- `execute::stored` meets its contract. Assumes nothing.
+-- `execute::stored` meets its contract.
 use Rattle.execute.specs.laws.Literals.{single-read, stored-read}
 use borrow.Author.Needs.{needs}
 use Rattle.execute.proofs.stored.Statement.{statement}

@@ -1,4 +1,4 @@
--- `execute::truths` meets its contract. Assumes nothing.
+-- `execute::truths` meets its contract.
 use mathlib.Core.Path.{ap}
 use Rattle.execute.specs.inner.View.{ok, err}
 use Rattle.execute.specs.declared.Got.the-variants as got

@@ -1,4 +1,4 @@
--- `execute::unop` meets its contract. Assumes nothing.
+-- `execute::unop` meets its contract.
 use borrow.Author.Needs.{needs}
 use Rattle.execute.proofs.unop.Statement.{statement}
 use Rattle.execute.proofs.unop.Tie as tie

@@ -1,4 +1,4 @@
--- `execute::update` meets its contract. Assumes nothing.
+-- `execute::update` meets its contract.
 use mathlib.Core.Path.{_≡_, refl, sym, ap, _∙_}
 use native.Mathlib.Omega.{arith}
 use mathlib.Core.Option.{Option}

@@ -1,5 +1,5 @@
 -- One operand that is read: unary operators, increments and the length of an array, as operations of the model.
--- Assumes nothing.
+--
 use mathlib.Core.Path.{_≡_, refl, sym, ap, _∙_, subst}
 use mathlib.Core.Bool.{Bool, cond, not}
 use mathlib.Core.List.{List}

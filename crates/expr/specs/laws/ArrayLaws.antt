@@ -1,4 +1,4 @@
--- Laws of arrays: the items one after the other, and a record with items. Assumes nothing.
+-- Laws of arrays: the items one after the other, and a record with items.
 use Prim.Native.Nat.{ℕ, suc, _+_, _*_, _^_, _≤_, _<_}
 use mathlib.Core.Path.{_≡_, refl, ap, sym, _∙_}
 use mathlib.Core.Bool.{Bool, true, false, cond}

@@ -1,4 +1,4 @@
--- The nodes of an expression are those of one tree. Assumes nothing.
+-- The nodes of an expression are those of one tree.
 use Prim.Native.Nat.{ℕ, zero, suc, _+_, _*_, _≤_, _<_}
 use mathlib.Core.Path.{_≡_, refl, ap, sym, _∙_}
 use mathlib.Core.Bool.{true, false}

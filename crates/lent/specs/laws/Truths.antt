@@ -1,4 +1,4 @@
--- What a conjunction of tests says. Assumes nothing.
+-- What a conjunction of tests says.
 use mathlib.Core.Path.{_≡_, refl}
 use mathlib.Core.Bool.{Bool, true, false, _&&_}
 use Prim.Native.Nat.{ℕ}

@@ -1,4 +1,4 @@
--- The program buffer: what the passes, the tables and the counts leave in a buffer of zeros is the program's. Assumes nothing.
+-- The program buffer: what the passes, the tables and the counts leave in a buffer of zeros is the program's.
 use Prim.Native.Nat.{ℕ, _+_, _*_, _-_, _≤_}
 use mathlib.Core.Path.{_≡_, refl, sym, ap, _∙_}
 use mathlib.Core.Bool.{true}

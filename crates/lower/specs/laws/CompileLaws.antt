@@ -1,4 +1,4 @@
--- The laws of `compile`: both passes, tables and counts of a tree make its program's buffer. Assumes nothing.
+-- The laws of `compile`: both passes, tables and counts of a tree make its program's buffer.
 use Prim.Native.Nat.{ℕ, zero, _+_, _*_, _≤_, _<_}
 use mathlib.Core.Path.{_≡_, refl, sym, ap, _∙_}
 use mathlib.Core.Bool.{Bool, true, false, cond}

@@ -1,4 +1,4 @@
--- The laws of the call lower: a buffer too short, a file refused, a tree refused, a tree lowered. Assumes nothing.
+-- The laws of the call lower: a buffer too short, a file refused, a tree refused, a tree lowered.
 use Prim.Native.Nat.{ℕ, zero, suc, _+_, _*_, _-_, _≤_, _<_}
 use mathlib.Core.Path.{_≡_, refl, sym, ap, _∙_}
 use mathlib.Core.List.{List, _++_}

@@ -1,4 +1,4 @@
--- Passes over a tree, for the declarations and for the code: each gives the refusal, and after each the records and the items are counted. Assumes nothing.
+-- Passes over a tree, for the declarations and for the code: each gives the refusal, and after each the records and the items are counted.
 use Prim.Native.Nat.{suc, _+_, _≤_, _<_}
 use mathlib.Core.Path.{_≡_, refl}
 use mathlib.Core.Bool.{Bool, true, false, cond}

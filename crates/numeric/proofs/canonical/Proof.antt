@@ -1,4 +1,4 @@
--- `numeric::canonical` meets its contract. Assumes nothing.
+-- `numeric::canonical` meets its contract.
 use mathlib.Core.Path.{sym, ap, _∙_}
 use Rattle.numeric.specs.laws.PatternLaws.{bits-nan, no-nan-canonical}
 use Rattle.numeric.proofs.Nans.{nan-pattern, no-nan-pattern}

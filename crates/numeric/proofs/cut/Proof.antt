@@ -1,4 +1,4 @@
--- `numeric::cut` meets its contract. Assumes nothing.
+-- `numeric::cut` meets its contract.
 use mathlib.Core.Path.{sym, _∙_, subst}
 use mathlib.Core.Bool.{Bool, not}
 use lib.Dec.{T}

@@ -1,4 +1,4 @@
--- `numeric::far` meets its contract. Assumes nothing.
+-- `numeric::far` meets its contract.
 use mathlib.Core.Path.{_≡_, _∙_}
 use Prim.Native.Nat.{ℕ, _-_, _*_, _/_, _%_, _^_, _≤_, _<_}
 use native.Mathlib.Nat.{mod-lt}

@@ -1,4 +1,4 @@
--- `numeric::power` meets its contract. The invariant: after i turns 2^c is squared i times. Assumes nothing.
+-- `numeric::power` meets its contract. The invariant: after i turns 2^c is squared i times.
 use mathlib.Core.Path.{_≡_, sym, ap, _∙_}
 use Prim.Native.Nat.{ℕ, _-_, _*_, _%_, _^_, _≤_, _<_}
 use native.Mathlib.Nat.{mul-one, one-mul}

@@ -1,4 +1,4 @@
--- `numeric::product` meets its contract. Assumes nothing.
+-- `numeric::product` meets its contract.
 use native.Mathlib.Omega.{arith}
 use Rattle.numeric.proofs.Products.{Small, small, product-same}
 use Rattle.numeric.proofs.product.Statement.{statement}

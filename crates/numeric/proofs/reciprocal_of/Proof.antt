@@ -1,4 +1,4 @@
--- `numeric::reciprocal_of` meets its contract. Assumes nothing.
+-- `numeric::reciprocal_of` meets its contract.
 use borrow.Author.Needs.{needs}
 use Rattle.numeric.proofs.Products.{reciprocal}
 use Rattle.numeric.proofs.reciprocal_of.Statement.{statement}

@@ -1,4 +1,4 @@
--- `numeric::remainder_of` meets its contract. Assumes nothing.
+-- `numeric::remainder_of` meets its contract.
 use mathlib.Core.Path.{_≡_}
 use Prim.Native.Nat.{_-_, _*_, _%_, _^_}
 use native.Mathlib.Nat.{mod-eq-of-lt}

@@ -1,4 +1,4 @@
--- `numeric::shifted` meets its contract. Assumes nothing.
+-- `numeric::shifted` meets its contract.
 use Prim.Native.Nat.{_*_, _/_}
 use native.Mathlib.Omega.{arith}
 use Rattle.numeric.proofs.Products.{Quotient, Parts, quotient-fits, quotient, parts, shift-same}

@@ -1,4 +1,4 @@
--- A reciprocal of a significand, by which the functions behind the remainder divide. Definition only. Assumes nothing.
+-- A reciprocal of a significand, by which the functions behind the remainder divide. Definition only.
 use Prim.Native.Nat.{ℕ, _+_, _*_, _^_, _≤_, _<_}
 use Rattle.numeric.specs.inner.Fields.{leading}
 

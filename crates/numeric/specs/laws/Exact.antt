@@ -1,5 +1,5 @@
 -- Laws of the remainder (document 01, "Running", on `%`): the relation fixes its answer (`remainder-one`), the computed remainder meets it (`modu-exact`), and so does a number whose
--- value is the remainder of two whole numbers that are the dividend and the divisor in one unit (`remainder-of-values`). Assumes nothing.
+-- value is the remainder of two whole numbers that are the dividend and the divisor in one unit (`remainder-of-values`).
 use mathlib.Core.Path.{_≡_, refl, sym, ap, _∙_, subst}
 use Prim.Native.Nat.{ℕ, zero, suc, _+_, _-_, _*_, _/_, _%_, _^_, _≤_, _<_}
 use native.Mathlib.Nat.{le-of-suc-le-suc, lt-of-not-le, lt-irrefl, lt-of-lt-of-le, lt-of-le-of-lt, le-of-lt, mul-one, one-mul, zero-mul, mul-comm, mul-assoc, mul-right-comm, add-mul, mul-pos, mul-lt-mul-of-pos-right, lt-of-mul-lt-mul-right, eq-of-mul-eq-mul-right, mod-lt, mod-le, div-add-mod', mod-eq-sub-div-mul, zero-lt-suc, pow-succ'}

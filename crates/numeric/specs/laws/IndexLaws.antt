@@ -1,5 +1,5 @@
 -- The index from a number, over whole numbers. Document 01, "Running": "Index from a number: NaN and negatives give 0, a fraction is cut, 2^64 and
--- above give 2^64 − 1." Its law, and worked examples, case 4 of "Cases" among them. Assumes nothing.
+-- above give 2^64 − 1." Its law, and worked examples, case 4 of "Cases" among them.
 use mathlib.Core.Path.{_≡_, refl}
 use mathlib.Core.Bool.{true, false}
 use Prim.Native.Nat.{_-_, _^_}

@@ -1,5 +1,5 @@
 -- The bit pattern of a number, with one for the NaN. Document 01, "Running": "All NaNs count as one value", "and the listing prints each as
--- 7ff8000000000000". Laws: a number that lies in memory as its pattern is read back, and each number has one pattern. Assumes nothing.
+-- 7ff8000000000000". Laws: a number that lies in memory as its pattern is read back, and each number has one pattern.
 use mathlib.Core.Path.{_≡_, refl, sym, ap, _∙_, subst}
 use mathlib.Core.Bool.{Bool, true, false, not, _||_}
 use Prim.Native.Nat.{ℕ, _<_, _^_}

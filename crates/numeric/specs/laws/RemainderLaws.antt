@@ -1,6 +1,6 @@
 -- The remainder of two numbers, with no rounding. Document 01, "Running": "`%` is Rust's truncated remainder, not IEEE 754's: exactly the dividend less
 -- the divisor times the quotient cut toward zero, with the dividend's sign, also on zero; NaN for a NaN, an infinite dividend or a zero divisor; a finite
--- dividend itself for an infinite divisor." Definitions and worked examples; the laws are in Exact. Assumes nothing.
+-- dividend itself for an infinite divisor." Definitions and worked examples; the laws are in Exact.
 use mathlib.Core.Path.{_≡_, refl}
 use mathlib.Core.Bool.{true, false}
 use lib.IntN.{pos, negsuc}

@@ -1,5 +1,5 @@
 -- Whole numbers as numbers of the engine, which are f64 (document 01, "Running": "numbers as f64"), such as a loop's index ("The walk"): up to 2 ^ 53 the
--- order and the sum are those of the whole numbers. Assumes nothing.
+-- order and the sum are those of the whole numbers.
 use mathlib.Core.Path.{_≡_, refl, sym, ap, _∙_}
 use mathlib.Core.Bool.{Bool, true, false, true≢false}
 use Prim.Native.Nat.{ℕ, _+_, _*_, _^_, _≤_, _<_}

@@ -1,4 +1,4 @@
--- `opc::byte_of` meets its contract. Assumes nothing.
+-- `opc::byte_of` meets its contract.
 use mathlib.Core.Path.{sym}
 use Prim.Native.Nat.{_*_}
 use Rattle.lent.specs.laws.Parts.{getD-part}

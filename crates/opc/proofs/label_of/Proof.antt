@@ -1,4 +1,4 @@
--- `opc::label_of` meets its contract. Assumes nothing.
+-- `opc::label_of` meets its contract.
 use Prim.Native.Nat.{_*_}
 use Rattle.opc.proofs.Laws.{label-read}
 use borrow.Author.Needs.{needs}

@@ -1,4 +1,4 @@
--- `opc::word_of` meets its contract. Assumes nothing.
+-- `opc::word_of` meets its contract.
 use mathlib.Core.Path.{sym, ap, _∙_}
 use Prim.Native.Nat.{_*_}
 use native.Mathlib.Omega.{arith}

@@ -1,5 +1,5 @@
 -- The laws of records: an instruction whose operands are in range is read back from its record and its items. Document 01, "Numbers given for the
--- input": 8 is the answer where a register is over 95, a text over 63, a label over 1,023, and so on; `instrOk` is that none of these holds. Assumes nothing.
+-- input": 8 is the answer where a register is over 95, a text over 63, a label over 1,023, and so on; `instrOk` is that none of these holds.
 use mathlib.Core.Path.{_≡_, refl, sym, ap, ap₂, _∙_}
 use mathlib.Core.Bool.{Bool, true, false, _&&_}
 use mathlib.Core.List.{List, [], _∷_, _++_, map}

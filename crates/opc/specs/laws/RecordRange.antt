@@ -1,4 +1,4 @@
--- What is read from a record is in range: document 01, "Numbers given for the input", 8, leaves no other instruction. Assumes nothing.
+-- What is read from a record is in range: document 01, "Numbers given for the input", 8, leaves no other instruction.
 use mathlib.Core.Path.{_≡_, refl}
 use mathlib.Core.Bool.{Bool, true, false, cond, _&&_}
 use mathlib.Core.List.{List, [], _∷_}

@@ -1,4 +1,4 @@
--- Laws of a program's lines, as the code writes them. Assumes nothing.
+-- Laws of a program's lines, as the code writes them.
 use mathlib.Core.Path.{_≡_, refl, sym, ap, ap₂, _∙_, subst}
 use mathlib.Core.Bool.{Bool, true, false, cond, not, _&&_, and-false}
 use mathlib.Core.List.{List, [], _∷_, _++_, map, append-assoc}

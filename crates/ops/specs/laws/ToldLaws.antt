@@ -1,4 +1,4 @@
--- An accepted program's instructions are those that its records tell. Assumes nothing.
+-- An accepted program's instructions are those that its records tell.
 use mathlib.Core.Path.{_≡_, refl, sym, ap, ap₂, _∙_, subst}
 use mathlib.Core.Bool.{Bool, true, false, cond, _&&_}
 use mathlib.Core.List.{List, [], _∷_, _++_}

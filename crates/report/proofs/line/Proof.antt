@@ -1,4 +1,4 @@
--- `report::line` meets its contract. Assumes nothing.
+-- `report::line` meets its contract.
 use Rattle.report.specs.laws.Told.{line-law}
 use native.Mathlib.Omega.{arith}
 use borrow.Author.Needs.{needs}

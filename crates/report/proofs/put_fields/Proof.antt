@@ -1,4 +1,4 @@
--- `report::put_fields` meets its contract. Assumes nothing.
+-- `report::put_fields` meets its contract.
 use Rattle.report.specs.laws.Told.{fields-written}
 use borrow.Author.Needs.{needs}
 use Rattle.report.proofs.put_fields.Statement.{statement}

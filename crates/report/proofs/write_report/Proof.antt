@@ -1,4 +1,4 @@
--- `report::write_report` meets its contract. Assumes nothing.
+-- `report::write_report` meets its contract.
 use lib.ListN.{drop}
 use Rattle.report.specs.laws.Told.{told-done, told-spent, told-stopped}
 use borrow.Author.Needs.{needs}

@@ -1,4 +1,4 @@
--- `sifv::box_ok` meets its contract. Assumes nothing.
+-- `sifv::box_ok` meets its contract.
 use borrow.Author.Needs.{needs}
 use native.Mathlib.Omega.{arith}
 use Rattle.lent.specs.laws.Each.{bytes-of}

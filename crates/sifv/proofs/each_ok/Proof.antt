@@ -1,4 +1,4 @@
--- `sifv::each_ok` meets its contract. Assumes nothing.
+-- `sifv::each_ok` meets its contract.
 use borrow.Author.Needs.{needs}
 use mathlib.Core.Path.{_≡_, refl, sym, ap, ap₂, _∙_}
 use Prim.Native.Nat.{_+_, _*_, _-_, _≤_}

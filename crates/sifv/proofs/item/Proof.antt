@@ -1,4 +1,4 @@
--- `sifv::item` meets its contract. Assumes nothing.
+-- `sifv::item` meets its contract.
 use mathlib.Core.Path.{refl}
 use native.Mathlib.Omega.{arith}
 use Rattle.sifv.specs.laws.Boxed.{item-law, item-below}

@@ -1,4 +1,4 @@
--- `sifv::item_ok` meets its contract. Assumes nothing.
+-- `sifv::item_ok` meets its contract.
 use borrow.Author.Needs.{needs}
 use Rattle.sifv.specs.laws.Direct.{item-law}
 use Rattle.sifv.proofs.item_ok.Statement.{statement}

@@ -1,4 +1,4 @@
--- `sifv::moderate_numbers` meets its contract. Assumes nothing.
+-- `sifv::moderate_numbers` meets its contract.
 use borrow.Author.Needs.{needs}
 use mathlib.Core.Path.{sym, ap, ap₂, _∙_}
 use mathlib.Core.Bool.{Bool, _&&_}

@@ -1,4 +1,4 @@
--- `sifv::stored_word` meets its contract. Assumes nothing.
+-- `sifv::stored_word` meets its contract.
 use mathlib.Core.Path.{sym, ap, _∙_}
 use Prim.Native.Nat.{ℕ}
 use Rattle.sifv.specs.Slot.{wordOf, singleOf}

@@ -1,4 +1,4 @@
--- `sifv::word_bound` meets its contract. Assumes nothing.
+-- `sifv::word_bound` meets its contract.
 use borrow.Author.Tests.{ne-eqb}
 use Prim.Native.Nat.{_%_}
 use Rattle.sifv.proofs.word_bound.Statement.{statement}

@@ -1,5 +1,5 @@
 -- The laws of value slots: a stored value is read back from its slot, a slot has 256 bytes, and an accepted slot is the one form of its value.
--- Document 01, "Running": "A value is a number, text, yes/no, array, table or nothing, numbers as f64". Assumes nothing.
+-- Document 01, "Running": "A value is a number, text, yes/no, array, table or nothing, numbers as f64".
 use mathlib.Core.Path.{_≡_, refl, ap, ap₂, _∙_}
 use mathlib.Core.Bool.{Bool, true, false, cond, _&&_}
 use mathlib.Core.List.{List, [], _∷_, _++_, map, map-id}

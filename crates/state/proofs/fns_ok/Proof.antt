@@ -1,4 +1,4 @@
--- `state::fns_ok` meets its contract. Assumes nothing.
+-- `state::fns_ok` meets its contract.
 use mathlib.Core.Path.{_≡_, refl, ap}
 use Prim.Native.Nat.{ℕ, _-_, _≤_}
 use native.Mathlib.Omega.{arith}

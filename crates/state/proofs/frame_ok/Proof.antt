@@ -1,4 +1,4 @@
--- `state::frame_ok` meets its contract. Assumes nothing.
+-- `state::frame_ok` meets its contract.
 use Rattle.state.proofs.frame_ok.Statement.{statement}
 use Rattle.state.proofs.frame_ok.Tie as tie
 

@@ -1,4 +1,4 @@
--- `state::frames_ok` meets its contract. Assumes nothing.
+-- `state::frames_ok` meets its contract.
 use mathlib.Core.Path.{_≡_, refl, ap, ap₂, _∙_}
 use mathlib.Core.Bool.{Bool, _&&_}
 use Prim.Native.Nat.{ℕ, _-_, _≤_}

@@ -1,4 +1,4 @@
--- `state::held` meets its contract. Assumes nothing.
+-- `state::held` meets its contract.
 use native.Mathlib.Omega.{arith}
 use borrow.Author.Tests.{eq-eqb, ne-eqb}
 use Rattle.state.proofs.held.Statement.{statement}

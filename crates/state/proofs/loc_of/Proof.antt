@@ -1,4 +1,4 @@
--- `state::loc_of` meets its contract. Assumes nothing.
+-- `state::loc_of` meets its contract.
 use mathlib.Core.Path.{_∙_}
 use native.Mathlib.Omega.{arith}
 use Rattle.lent.specs.laws.Numbers.{beValue-one}

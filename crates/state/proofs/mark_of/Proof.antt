@@ -1,4 +1,4 @@
--- `state::mark_of` meets its contract. Assumes nothing.
+-- `state::mark_of` meets its contract.
 use native.Mathlib.Omega.{arith}
 use Rattle.state.specs.laws.Marks.{Marking, marking-start, marking-turn, marking-room, marking-end}
 use Rattle.state.proofs.mark_of.Statement.{statement}

@@ -1,4 +1,4 @@
--- `state::place_ok` meets its contract. Assumes nothing.
+-- `state::place_ok` meets its contract.
 use Rattle.state.proofs.place_ok.Statement.{statement}
 use Rattle.state.proofs.place_ok.Tie as tie
 

@@ -1,4 +1,4 @@
--- `state::progress_of` meets its contract. Assumes nothing.
+-- `state::progress_of` meets its contract.
 use borrow.Author.Needs.{needs}
 use Rattle.state.proofs.progress_of.Statement.{statement}
 use Rattle.state.proofs.progress_of.Tie as tie

@@ -1,4 +1,4 @@
--- `state::slots_ok` meets its contract. Assumes nothing.
+-- `state::slots_ok` meets its contract.
 use mathlib.Core.Path.{_≡_, refl}
 use Prim.Native.Nat.{_-_, _≤_}
 use native.Mathlib.Omega.{arith}

@@ -1,4 +1,4 @@
--- `state::small_ok` meets its contract. Assumes nothing.
+-- `state::small_ok` meets its contract.
 use mathlib.Core.Path.{ap₂}
 use mathlib.Core.Bool.{Bool, _&&_}
 use Prim.Native.Nat.{ℕ}

@@ -1,4 +1,4 @@
--- `state::start` meets its contract. Assumes nothing.
+-- `state::start` meets its contract.
 use mathlib.Core.Path.{_∙_}
 use native.Mathlib.Omega.{arith}
 use Rattle.state.specs.laws.Starts.{start-written}

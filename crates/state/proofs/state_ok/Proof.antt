@@ -1,4 +1,4 @@
--- `state::state_ok` meets its contract. Assumes nothing.
+-- `state::state_ok` meets its contract.
 use mathlib.Core.Path.{ap, ap₂, _∙_}
 use mathlib.Core.Bool.{Bool, _&&_}
 use lib.Dec.{eqb}

@@ -1,4 +1,4 @@
--- `state::write_back` meets its contract. Assumes nothing.
+-- `state::write_back` meets its contract.
 use Rattle.state.specs.laws.Whole.{run-written}
 use borrow.Author.Needs.{needs}
 use Rattle.state.proofs.write_back.Statement.{statement}

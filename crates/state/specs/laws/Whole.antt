@@ -1,5 +1,5 @@
 -- A run's bytes and the whole state: accepted bytes hold their machine; written back, they are the state's one form.
--- Assumes nothing.
+--
 use mathlib.Core.Path.{_≡_, refl, sym, ap, ap₂, _∙_, subst}
 use mathlib.Core.Bool.{true}
 use mathlib.Core.List.{List, [], _∷_, _++_, reverse, append-assoc}

@@ -1,4 +1,4 @@
--- If: its arms and their rest. Assumes nothing.
+-- If: its arms and their rest.
 use Prim.Native.Nat.{ℕ, suc, _+_, _≤_, _<_, _^_}
 use mathlib.Core.Path.{_≡_, refl, sym, ap, _∙_}
 use mathlib.Core.Bool.{Bool, true, false, _&&_}

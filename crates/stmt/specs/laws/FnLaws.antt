@@ -1,4 +1,4 @@
--- A whole FnDecl: its registers, its instruction, its pops, and its Block. Assumes nothing.
+-- A whole FnDecl: its registers, its instruction, its pops, and its Block.
 use Prim.Native.Nat.{ℕ, zero, suc, _+_, _*_, _-_, _≤_, _<_, _^_}
 use mathlib.Core.Path.{_≡_, refl, sym, ap, _∙_}
 use mathlib.Core.Bool.{Bool, true, false}

@@ -1,4 +1,4 @@
--- A function's instruction, its registers and its pops. Assumes nothing.
+-- A function's instruction, its registers and its pops.
 use Prim.Native.Nat.{ℕ, zero, suc, _+_, _*_, _-_, _%_, _≤_, _<_}
 use mathlib.Core.Path.{_≡_, refl, sym, ap, _∙_}
 use mathlib.Core.Bool.{Bool, true, false, cond}

@@ -1,4 +1,4 @@
--- A whole For: its source, what stands before its Block, the Block, and what stands behind. Assumes nothing.
+-- A whole For: its source, what stands before its Block, the Block, and what stands behind.
 use Prim.Native.Nat.{ℕ, suc, _+_, _≤_, _<_, _^_}
 use mathlib.Core.Path.{_≡_, refl, sym, ap, _∙_}
 use mathlib.Core.Bool.{Bool}

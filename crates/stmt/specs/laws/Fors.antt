@@ -1,4 +1,4 @@
--- What a For goes over, and what stands before and behind its Block. Assumes nothing.
+-- What a For goes over, and what stands before and behind its Block.
 use Prim.Native.Nat.{ℕ, _+_, _≤_}
 use mathlib.Core.Path.{_≡_, refl, sym, ap, _∙_}
 use mathlib.Core.Bool.{Bool}

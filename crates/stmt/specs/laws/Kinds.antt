@@ -1,4 +1,4 @@
--- Which statement stands at a place, by its kind; and where its parts stand. Assumes nothing.
+-- Which statement stands at a place, by its kind; and where its parts stand.
 use Prim.Native.Nat.{ℕ, _+_, _-_, _≤_}
 use mathlib.Core.Path.{_≡_, refl, sym, ap, _∙_}
 use mathlib.Core.Bool.{Bool}

@@ -1,4 +1,4 @@
--- Instructions at a place of the tree. Assumes nothing.
+-- Instructions at a place of the tree.
 use Prim.Native.Nat.{ℕ, _+_}
 use mathlib.Core.Path.{_≡_, refl, ap, _∙_}
 use mathlib.Core.Bool.{Bool}

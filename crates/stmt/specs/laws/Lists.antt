@@ -1,4 +1,4 @@
--- Statements one after the other, and the Nop for none. Assumes nothing.
+-- Statements one after the other, and the Nop for none.
 use Prim.Native.Nat.{ℕ, zero, suc, _+_, _-_, _≤_, _<_}
 use mathlib.Core.Path.{_≡_, refl, sym, ap}
 use mathlib.Core.Bool.{Bool}

@@ -1,4 +1,4 @@
--- Parts of a run that start from the register that the others leave, and jumps whose targets are written later. Assumes nothing.
+-- Parts of a run that start from the register that the others leave, and jumps whose targets are written later.
 use Prim.Native.Nat.{ℕ, _+_, _*_}
 use mathlib.Core.Path.{_≡_, refl, sym, ap, _∙_}
 use mathlib.Core.Bool.{Bool, true, false, cond, not, _&&_}

@@ -1,4 +1,4 @@
--- The registers that the events of statements take. Assumes nothing.
+-- The registers that the events of statements take.
 use Prim.Native.Nat.{ℕ, zero, suc}
 use mathlib.Core.Path.{_≡_, refl, ap}
 use mathlib.Core.List.{List, [], _∷_}

@@ -1,4 +1,4 @@
--- Statements with no statement inside: Return, ExprStmt, VarDecl. Assumes nothing.
+-- Statements with no statement inside: Return, ExprStmt, VarDecl.
 use Prim.Native.Nat.{ℕ, _+_, _-_, _≤_}
 use mathlib.Core.Path.{_≡_, refl, sym, ap, _∙_}
 use mathlib.Core.Bool.{Bool}

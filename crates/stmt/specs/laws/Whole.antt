@@ -1,4 +1,4 @@
--- The whole tree: its node, then its statements. Assumes nothing.
+-- The whole tree: its node, then its statements.
 use Prim.Native.Nat.{ℕ, _≤_}
 use mathlib.Core.Path.{_≡_, refl, sym, ap, _∙_}
 use mathlib.Core.Bool.{Bool, true, false, not}

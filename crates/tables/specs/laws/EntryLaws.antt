@@ -1,4 +1,4 @@
--- The laws of a stored table while it is made: one entry written, one record passed, the end. Assumes nothing.
+-- The laws of a stored table while it is made: one entry written, one record passed, the end.
 use Prim.Native.Nat.{ℕ, zero, suc, _+_, _*_, _≤_, _<_}
 use mathlib.Core.Path.{_≡_, refl, sym, ap, _∙_}
 use mathlib.Core.Bool.{Bool, true, false, cond, not, _&&_}

@@ -1,5 +1,5 @@
 -- The laws of the program buffer: a program within the limits is read back from its buffer, whatever lies behind, and the buffer has 40,960 bytes.
--- Document 01, "Numbers given for the input": 8. Assumes nothing.
+-- Document 01, "Numbers given for the input": 8.
 use mathlib.Core.Path.{_≡_, refl, sym, ap, ap₂, _∙_}
 use mathlib.Core.Bool.{true, _&&_}
 use mathlib.Core.List.{List, [], _∷_, _++_, map, append-assoc, append-nil}

@@ -1,4 +1,4 @@
--- What is read from a program buffer is within the limits: document 01, "Numbers given for the input", 8, leaves no other program. Assumes nothing.
+-- What is read from a program buffer is within the limits: document 01, "Numbers given for the input", 8, leaves no other program.
 use mathlib.Core.Path.{_≡_, refl, subst}
 use mathlib.Core.Bool.{true, _&&_}
 use mathlib.Core.List.{List, _∷_}

@@ -1,4 +1,4 @@
--- Laws of digits, and of writing them. Assumes nothing.
+-- Laws of digits, and of writing them.
 use mathlib.Core.Path.{_≡_, sym, ap, ap₂, _∙_, subst}
 use mathlib.Core.Bool.{Bool, cond}
 use mathlib.Core.List.{List, [], _∷_, _++_}

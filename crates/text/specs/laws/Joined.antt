@@ -1,4 +1,4 @@
--- Laws of lists of texts that are written one by one: items with a separator between, fields of a line, lines. Assumes nothing.
+-- Laws of lists of texts that are written one by one: items with a separator between, fields of a line, lines.
 use mathlib.Core.Path.{_≡_, refl, sym, ap, ap₂, _∙_, subst}
 use mathlib.Core.List.{List, [], _∷_, _++_, map, append-nil, append-assoc}
 use Prim.Native.Nat.{ℕ, zero, suc, _+_, _≤_}

@@ -1,4 +1,4 @@
--- Laws of texts that are written one after the other. Assumes nothing.
+-- Laws of texts that are written one after the other.
 use mathlib.Core.Path.{_≡_, refl, sym, ap, ap₂, _∙_, subst}
 use mathlib.Core.Bool.{Bool, true, false}
 use mathlib.Core.List.{List, [], _∷_, _++_}

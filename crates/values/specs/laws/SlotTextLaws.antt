@@ -1,4 +1,4 @@
--- A slot's value as text, by what the slot shows; items and entries one by one. Assumes nothing.
+-- A slot's value as text, by what the slot shows; items and entries one by one.
 use mathlib.Core.Path.{_≡_, refl, sym, ap, ap₂, _∙_, subst}
 use mathlib.Core.Bool.{Bool, true, false}
 use mathlib.Core.List.{List, [], _∷_, _++_, map}

@@ -1,4 +1,4 @@
--- Demand 3's bound by the tree's nodes: of a plain script it is the tree's cost (Cost.antt), which is counted without lowering. Assumes nothing.
+-- Demand 3's bound by the tree's nodes: of a plain script it is the tree's cost (Cost.antt), which is counted without lowering.
 use Prim.Native.Nat.{max}
 use mathlib.Core.Path.{_≡_}
 use lib.Dec.{T}

@@ -1,5 +1,5 @@
 -- Demand 3's bound is far below 2^64: at most 1,024 instructions, at most 8 loops around each, and array literals of at most 24 items. So a run that is given
--- the bound is never refused for the count. Document 01, "Numbers given for the input": 4, 7. Assumes nothing.
+-- the bound is never refused for the count. Document 01, "Numbers given for the input": 4, 7.
 use mathlib.Core.Path.{_≡_}
 use mathlib.Core.Bool.{Bool, true, false, not, _&&_}
 use mathlib.Core.List.{List}

@@ -1,4 +1,4 @@
--- The parts of a plain tree and of its lowered code, case by case. Assumes nothing.
+-- The parts of a plain tree and of its lowered code, case by case.
 use Prim.Native.Nat.{ℕ}
 use mathlib.Core.Bool.{Bool, true, false, cond, _&&_}
 use mathlib.Core.List.{List, [], _∷_}

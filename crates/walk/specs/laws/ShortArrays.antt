@@ -1,4 +1,4 @@
--- A tree that the structure check accepts has array literals of at most 24 items. Assumes nothing.
+-- A tree that the structure check accepts has array literals of at most 24 items.
 use Prim.Native.Nat.{ℕ, _-_, max, _≤_, zero-le}
 use native.Mathlib.Nat.{max-le}
 use mathlib.Core.Bool.{Bool, true, not, _&&_}

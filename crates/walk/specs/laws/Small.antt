@@ -1,4 +1,4 @@
--- Arrays of at most l items: what operations leave is no larger. Assumes nothing.
+-- Arrays of at most l items: what operations leave is no larger.
 use Prim.Native.Nat.{ℕ, _≤_}
 use mathlib.Core.Bool.{Bool, true, false, cond}
 use mathlib.Core.List.{List}

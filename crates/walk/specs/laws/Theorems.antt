@@ -1,5 +1,5 @@
 -- What is proved of plain scripts that lower: the started program does what the walk of the tree says, in one run or in any list of runs. The lemmas are in
--- Simulation. Assumes nothing.
+-- Simulation.
 use Prim.Native.Nat.{ℕ, zero, suc, _+_, _-_, _≤_, _<_}
 use native.Mathlib.Nat.{le-trans, zero-add}
 use native.Mathlib.Omega.{arith}

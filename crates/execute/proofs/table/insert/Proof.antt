@@ -1,4 +1,4 @@
--- `execute::table::insert` meets its contract. Assumes nothing.
+-- `execute::table::insert` meets its contract.
 use mathlib.Core.Path.{refl, sym, ap, _∙_, subst}
 use mathlib.Core.Option.{Option, some}
 use Prim.Native.Nat.{_<_, _≤_}

@@ -1,4 +1,4 @@
--- `execute::table::tblg` meets its contract. Assumes nothing.
+-- `execute::table::tblg` meets its contract.
 use mathlib.Core.Path.{refl, sym, ap, _∙_}
 use native.Mathlib.Omega.{arith}
 use borrow.Author.Tests.{not-true, not-false}

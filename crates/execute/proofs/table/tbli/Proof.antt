@@ -1,4 +1,4 @@
--- `execute::table::tbli` meets its contract. Assumes nothing.
+-- `execute::table::tbli` meets its contract.
 use mathlib.Core.Path.{refl, sym, ap, _∙_}
 use mathlib.Core.Option.{Option}
 use native.Mathlib.Omega.{arith}

@@ -1,4 +1,4 @@
--- `sifv::table::has_key` meets its contract. Assumes nothing.
+-- `sifv::table::has_key` meets its contract.
 use Rattle.sifv.specs.laws.Tables.{has-none, has-this}
 use borrow.Author.Needs.{needs}
 use Rattle.sifv.proofs.table.has_key.Statement.{statement}

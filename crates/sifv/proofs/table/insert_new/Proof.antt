@@ -1,4 +1,4 @@
--- `sifv::table::insert_new` meets its contract. Assumes nothing.
+-- `sifv::table::insert_new` meets its contract.
 use mathlib.Core.Path.{sym, ap, _∙_, subst}
 use Prim.Native.Nat.{ℕ, _+_, _≤_, _<_}
 use mathlib.Core.List.{List}

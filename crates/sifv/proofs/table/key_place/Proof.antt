@@ -1,4 +1,4 @@
--- `sifv::table::key_place` meets its contract. The loop's invariant: the key's place is i and the place among the rest. Assumes nothing.
+-- `sifv::table::key_place` meets its contract. The loop's invariant: the key's place is i and the place among the rest.
 use mathlib.Core.Path.{_≡_, _∙_}
 use Prim.Native.Nat.{_+_, _-_, _≤_}
 use native.Mathlib.Omega.{arith}

@@ -1,4 +1,4 @@
--- `sifv::table::open_entry` meets its contract. The loop's invariant: the entries from j on are moved. Assumes nothing.
+-- `sifv::table::open_entry` meets its contract. The loop's invariant: the entries from j on are moved.
 use mathlib.Core.Path.{_≡_, refl, sym, ap, _∙_}
 use Prim.Native.Nat.{ℕ, _+_, _-_, _≤_}
 use native.Mathlib.Omega.{arith}

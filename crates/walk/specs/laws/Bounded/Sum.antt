@@ -1,5 +1,5 @@
 -- What the lowering of a plain tree pushes: instructions whose sum of L to the power of the loops around each is the tree's cost, multiplied by L for
--- each For around it. Each part begins with an instruction of its label. Assumes nothing.
+-- each For around it. Each part begins with an instruction of its label.
 use Prim.Native.Nat.{ℕ, suc, _+_, _*_, _^_}
 use native.Mathlib.Nat.{pow-suc}
 use native.Mathlib.Omega.{arith}

@@ -1,4 +1,4 @@
--- The lowered code of a plain script: all of it stands in the main section, each part begins with its label, and labels never decrease. Assumes nothing.
+-- The lowered code of a plain script: all of it stands in the main section, each part begins with its label, and labels never decrease.
 use Prim.Native.Nat.{ℕ, _+_, _≤_, _<_}
 use native.Mathlib.Nat.{le-refl, le-trans}
 use native.Mathlib.Omega.{arith}

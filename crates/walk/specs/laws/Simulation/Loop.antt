@@ -1,4 +1,4 @@
--- The lowered code of a For does what the walk does. Assumes nothing.
+-- The lowered code of a For does what the walk does.
 use Prim.Native.Nat.{ℕ, zero, suc, _+_, _^_, pred, _≤_, _<_}
 use native.Mathlib.Nat.{le-refl}
 use native.Mathlib.Omega.{arith}

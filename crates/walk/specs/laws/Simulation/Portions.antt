@@ -1,4 +1,4 @@
--- Runs in turns are one run of their sum, and a run goes where the steps of a walk lead. Assumes nothing.
+-- Runs in turns are one run of their sum, and a run goes where the steps of a walk lead.
 use Prim.Native.Nat.{ℕ, zero, suc, _+_, _≤_}
 use native.Mathlib.Nat.{le-refl, add-zero, zero-add, add-suc, suc-add}
 use native.Mathlib.Omega.{arith}

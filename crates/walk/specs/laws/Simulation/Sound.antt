@@ -1,4 +1,4 @@
--- The lowered code of a plain script stands in its program, and does what the walk does. Assumes nothing.
+-- The lowered code of a plain script stands in its program, and does what the walk does.
 use Prim.Native.Nat.{ℕ, zero, suc, _+_, _^_, _≤_}
 use native.Mathlib.Nat.{le-refl, le-trans, add-zero, zero-add, add-suc, suc-add}
 use native.Mathlib.Omega.{arith}

@@ -1,4 +1,4 @@
--- The lowered code of statements in order, of a Block and of an If does what the walk does. Assumes nothing.
+-- The lowered code of statements in order, of a Block and of an If does what the walk does.
 use Prim.Native.Nat.{ℕ, suc, _+_, _≤_, _<_}
 use native.Mathlib.Nat.{le-refl}
 use native.Mathlib.Omega.{arith}

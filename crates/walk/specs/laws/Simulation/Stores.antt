@@ -1,4 +1,4 @@
--- The lowered code of a right side, and of an expression that is a statement, does what the walk does. Assumes nothing.
+-- The lowered code of a right side, and of an expression that is a statement, does what the walk does.
 use Prim.Native.Nat.{ℕ, _+_, _^_, _≤_}
 use native.Mathlib.Nat.{le-refl}
 use native.Mathlib.Omega.{arith}
