@@ -19,7 +19,8 @@
  * - Threads: calls on different buffers may run at the same time. A program that nobody writes may be lent to several calls at
  *   once, and a state that nobody writes to several sif_read_name; a state that is started or run is lent to that one call alone.
  * - Stack, measured on x86-64: sif_lower 31 KB over the files at the limits of bench/run, and up to 196 KB on a file of nothing
- *   but Elifs, each of which takes 0.6 KB (Ifs in one another, 333 Elifs in all); sif_start, sif_run, sif_read_name under 3 KB. */
+ *   but Elifs, each of which takes 0.6 KB (Ifs in one another, 333 Elifs in all); sif_run under 5 KB, sif_start and sif_read_name
+ *   under 3 KB. */
 #ifndef SIF_H
 #define SIF_H
 

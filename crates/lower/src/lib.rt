@@ -25,11 +25,22 @@ fn finish(program: &mut [u8], n: usize, start: usize)
     lent::put_u16(program, 34946, start as u64);
 }
 
-// A tree with declarations, which is not refused: the first pass writes them, the second the code.
-fn compile_both(entries: &[u8], bodies: &[u8], program: &mut [u8])
-    requires { ⌜ ((t : Stmts) × Spelt t (now entries) (now bodies) × (refusal (lowerTree t) 0 0 ≡ 0)) ⌝ }
+// Whether a node declares a function: kind 9.
+fn declares(entries: &[u8]) -> bool {
+    let mut found = false;
+    let mut i = 0;
+    while i < entries.len() {
+        found = found | (entries[i] == 9);
+        i += 2;
+    }
+    found
+}
+
+// A tree with declarations: the first pass writes them and gives every refusal, the second writes the code.
+fn compile_both(entries: &[u8], bodies: &[u8], program: &mut [u8]) -> u64
+    requires { ⌜ ((t : Stmts) × Spelt t (now entries) (now bodies)) ⌝ }
     requires { ⌜ ((rest : List ℕ) × Cleared rest (now program)) ⌝ }
-    ensures { λ _. ⌜ ((t : Stmts) (rest : List ℕ) → Spelt t (now (entries .entry)) (now (bodies .entry)) → refusal (lowerTree t) 0 0 ≡ 0 → Cleared rest (now (program .entry)) → Compiled t rest 0 (now (program .exit))) ⌝ }
+    ensures { λ r. ⌜ ((t : Stmts) (rest : List ℕ) → Spelt t (now (entries .entry)) (now (bodies .entry)) → Cleared rest (now (program .entry)) → Compiled t rest r (now (program .exit))) ⌝ }
 {
     let decls = emit::Low {
         reg: 0,
@@ -40,6 +51,9 @@ fn compile_both(entries: &[u8], bodies: &[u8], program: &mut [u8])
         refused: 0,
     };
     let d = stmt::lower_tree(entries, bodies, decls, program);
+    if d.refused != 0 {
+        return d.refused;
+    }
     let code = emit::Low {
         reg: 0,
         decls: false,
@@ -50,14 +64,19 @@ fn compile_both(entries: &[u8], bodies: &[u8], program: &mut [u8])
     };
     let c = stmt::lower_tree(entries, bodies, code, program);
     finish(program, c.recs, d.recs);
+    0
 }
 
-// The program of a tree in a buffer of zeros: 0, or 6 or 7. Where all instructions are code, one pass writes them.
+// The program of a tree in a buffer of zeros: 0, or 6 or 7. Where all instructions are code, one pass writes them; where a
+// function is declared, two.
 fn compile(entries: &[u8], bodies: &[u8], program: &mut [u8]) -> u64
     requires { ⌜ ((t : Stmts) × Spelt t (now entries) (now bodies)) ⌝ }
     requires { ⌜ ((rest : List ℕ) × Cleared rest (now program)) ⌝ }
     ensures { λ r. ⌜ ((t : Stmts) (rest : List ℕ) → Spelt t (now (entries .entry)) (now (bodies .entry)) → Cleared rest (now (program .entry)) → Compiled t rest r (now (program .exit))) ⌝ }
 {
+    if declares(entries) {
+        return compile_both(entries, bodies, program);
+    }
     let alone = emit::Low {
         reg: 0,
         decls: false,
@@ -75,8 +94,7 @@ fn compile(entries: &[u8], bodies: &[u8], program: &mut [u8]) -> u64
         return 0;
     }
     lent::clear(program, 40960);
-    compile_both(entries, bodies, program);
-    0
+    compile_both(entries, bodies, program)
 }
 
 // A file that holds a tree: its entries and its nodes' bodies are lowered.

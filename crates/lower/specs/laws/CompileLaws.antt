@@ -122,12 +122,29 @@ module _ (t : Stmts) (rest b₀ : List ℕ) (w : StmtsIn t) (f : length (flat t)
     pub pass-cleared : (b₂ : List ℕ) → b₂ ≡ splice b₁ 0 (replicate 40960 0) → Cleared rest b₂
     pass-cleared b₂ q = rw pass-rest at (clears b₁ q)
 
+    -- every pass gives the refusal
+    module _ (r : afterEvents (lowerTree t) s .refused ≡ refusal (lowerTree t) 0 0) where
+      pass-number : d .refused ≡ refusal (lowerTree t) 0 0
+      pass-number = ap (λ (x : Low). x .refused) (did .state) ∙ r
+
+      pass-refused : (d .refused ≡ 0 → ⊥) → Compiled t rest (d .refused) b₁
+      pass-refused n = record { number = pass-number; made = λ z. absurd (n z); behind = pass-rest; long = pass-long }
+
   -- the first pass, then the second
 
   module _ (d : Low) (b₁ : List ℕ) (did : Did (lowerTree t) firstPass b₀ d b₁) where
+    first-is : afterEvents (lowerTree t) firstPass .refused ≡ refusal (lowerTree t) 0 0
+    first-is = refused-first (lowerTree t) firstPass refl (record { few = omega arith; room = omega (arith, all-items) })
+
+    pub first-number : d .refused ≡ refusal (lowerTree t) 0 0
+    first-number = pass-number firstPass d b₁ did first-is
+
+    pub first-refused : (d .refused ≡ 0 → ⊥) → Compiled t rest (d .refused) b₁
+    first-refused = pass-refused firstPass d b₁ did first-is
+
     module _ (none-refused : refusal (lowerTree t) 0 0 ≡ 0) where
       first-none : afterEvents (lowerTree t) firstPass .refused ≡ 0
-      first-none = refused-first (lowerTree t) firstPass refl (record { few = omega arith; room = omega (arith, all-items) }) ∙ none-refused
+      first-none = first-is ∙ none-refused
 
       few-instructions : length (codeOf Decl (lowerTree t)) + length (codeOf Main (lowerTree t)) ≤ 1024
       few-instructions = omega (arith, unrefused-length (lowerTree t) none-refused, length-append (codeOf Decl (lowerTree t)) (codeOf Main (lowerTree t)))
@@ -217,11 +234,14 @@ module _ (t : Stmts) (rest b₀ : List ℕ) (w : StmtsIn t) (f : length (flat t)
   -- ---- the code alone: where as many records are written as instructions are pushed, there is no declaration, and the first pass would write nothing
 
   module _ (e : Low) (b₂ : List ℕ) (did : Did (lowerTree t) onePass b₀ e b₂) where
-    pub one-number : e .refused ≡ refusal (lowerTree t) 0 0
-    one-number = ap (λ (s : Low). s .refused) (did .state) ∙ refused-first (lowerTree t) onePass refl (record { few = omega arith; room = omega (arith, all-items) })
+    one-is : afterEvents (lowerTree t) onePass .refused ≡ refusal (lowerTree t) 0 0
+    one-is = refused-first (lowerTree t) onePass refl (record { few = omega arith; room = omega (arith, all-items) })
+
+    one-number : e .refused ≡ refusal (lowerTree t) 0 0
+    one-number = pass-number onePass e b₂ did one-is
 
     pub one-refused : (e .refused ≡ 0 → ⊥) → Compiled t rest (e .refused) b₂
-    one-refused n = record { number = one-number; made = λ z. absurd (n z); behind = pass-rest onePass e b₂ did; long = pass-long onePass e b₂ did }
+    one-refused = pass-refused onePass e b₂ did one-is
 
     module _ (o : e .refused ≡ 0) (h : e .recs ≡ e .count) where
       one-none : afterEvents (lowerTree t) onePass .refused ≡ 0
