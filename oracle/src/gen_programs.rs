@@ -499,7 +499,16 @@ fn row(rng: &mut Rng, label: usize) -> Vec<String> {
     let to = rng.below(label + 2);
     let literal = row_value(rng);
     let jump = format!("JmpCnd {} {source} {to}", rng.pick(&["Jmpt", "Jmpf"]));
-    let mut out = match rng.below(8) {
+    let truth = |rng: &mut Rng| rng.pick(&["Bl:0", "Bl:1"]);
+    let mut out = match rng.below(9) {
+        8 => {
+            return vec![
+                format!("Ldc {a} {}", truth(rng)),
+                format!("Ldc {b} {}", truth(rng)),
+                format!("Binary {} {a} {b} {c}", rng.pick(&BINARY[11..])),
+                jump,
+            ]
+        }
         0 | 1 => vec![format!("Ldn {a} {x}"), format!("Ldn {b} {y}")],
         2 | 3 => vec![format!("Ldn {a} {x}"), format!("Ldc {b} {literal}")],
         4 => vec![format!("Ldn {b} {y}")],

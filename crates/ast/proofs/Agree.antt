@@ -1,5 +1,4 @@
 -- Answers of the pass over bytes agree with what is left of the nodes.
---
 use mathlib.Core.Path.{_≡_, refl, sym, ap, _∙_}
 use mathlib.Core.Bool.{true}
 use mathlib.Core.List.{List, [], _∷_}

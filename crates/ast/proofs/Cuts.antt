@@ -1,5 +1,4 @@
 -- Texts cut from bytes, one after the other.
---
 use mathlib.Core.Path.{_≡_, refl, sym, ap, _∙_}
 use mathlib.Core.Bool.{Bool, true, not, _&&_, and-assoc}
 use mathlib.Core.List.{List, [], _∷_, _++_}

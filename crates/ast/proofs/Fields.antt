@@ -1,5 +1,4 @@
 -- One node's field, at the front of the bodies.
---
 use mathlib.Core.Path.{_≡_, refl, sym, ap}
 use mathlib.Core.Bool.{Bool, true, _&&_, and-true}
 use mathlib.Core.List.{List, [], _∷_}

@@ -1,5 +1,4 @@
 -- Parsers with a test on their trees: what is left of a sequence of them, and of many.
---
 use mathlib.Core.Path.{_≡_, refl, ap, _∙_}
 use mathlib.Core.Bool.{Bool, true, false, _&&_}
 use mathlib.Core.List.{List}

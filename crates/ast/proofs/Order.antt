@@ -1,5 +1,4 @@
 -- The order of the checks, and the parts of the file.
---
 use mathlib.Core.Path.{_≡_, refl, sym, ap, _∙_}
 use mathlib.Core.Bool.{Bool, true, false}
 use mathlib.Core.List.{List}

@@ -1,5 +1,4 @@
 -- The places of document 01, "The tree file", with their kinds.
---
 use mathlib.Core.Path.{_≡_, refl}
 use mathlib.Core.List.{List, [], _∷_}
 use Prim.Native.Nat.{ℕ, _+_, _^_}

@@ -1,5 +1,4 @@
 -- The first node of entries with room, and the nodes after it.
---
 use mathlib.Core.Path.{_≡_, refl, ap, _∙_}
 use mathlib.Core.Bool.{true}
 use mathlib.Core.List.{List, [], _∷_}

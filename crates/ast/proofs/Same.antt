@@ -1,5 +1,4 @@
 -- The pass over nodes and the definition of the trees agree: what is left after a tree that keeps its limits.
---
 use mathlib.Core.Path.{_≡_, refl, sym, ap, ap₂, _∙_}
 use mathlib.Core.Bool.{Bool, true, false, cond, not, _&&_, _||_, and-true, and-assoc}
 use mathlib.Core.List.{List, [], _∷_}

@@ -1,5 +1,4 @@
 -- Loops over bytes: the answer of the whole is the answer so far, and that of what is left.
---
 use mathlib.Core.Path.{_≡_, refl, sym, _∙_}
 use mathlib.Core.Bool.{Bool, true, false, _&&_}
 use mathlib.Core.List.{List, [], _∷_, map}

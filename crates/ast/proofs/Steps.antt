@@ -1,5 +1,4 @@
 -- The pass over bytes, step by step: a subtree, subtrees one after the other, Items, a node.
---
 use mathlib.Core.Path.{_≡_, refl, sym, ap, subst, _∙_}
 use mathlib.Core.Bool.{Bool, true, false, cond, not}
 use mathlib.Core.List.{List, [], _∷_}

@@ -1,5 +1,4 @@
 -- Rules of the kinds 0 to 23, each by one computed test.
---
 use mathlib.Core.Path.{_≡_}
 use mathlib.Core.Bool.{Bool, true, false, _&&_, _||_}
 use mathlib.Core.List.{List, [], _∷_}

@@ -1,5 +1,4 @@
 -- The steps of the two passes over the entries: the answer of the whole is the answer so far and that of what is left.
---
 use mathlib.Core.Path.{_≡_, refl, sym, ap, subst, _∙_}
 use mathlib.Core.Bool.{Bool, true, false, cond, _&&_, _||_}
 use mathlib.Core.List.{List, [], _∷_}

@@ -1,5 +1,4 @@
 -- What is spelt is parsed: a tree within the limits is read from its nodes. By the depth that is left, a clause for each constructor.
---
 use mathlib.Core.Path.{_≡_, refl, ap, _∙_, subst}
 use mathlib.Core.Bool.{Bool, true, false, _&&_}
 use mathlib.Core.List.{List, [], _++_, append-assoc, append-nil}

@@ -1,5 +1,4 @@
 -- Nodes and their bytes: what was written is read again, and what was read is written again. Nodes of a file whose checks passed hold what they may.
---
 use mathlib.Core.Path.{_≡_, refl, sym, ap, _∙_}
 use mathlib.Core.Bool.{Bool, true, false, _&&_, and-assoc}
 use mathlib.Core.List.{List, [], _∷_, _++_, map, append-assoc}

@@ -1,6 +1,5 @@
 -- Files and trees: texts and a tree within the limits have a file that is read as that tree, and a file of bytes that is read is the one of its texts and
 -- its tree. So reading and writing are inverse.
---
 use mathlib.Core.Path.{_≡_, refl, sym, ap, ap₂, _∙_}
 use mathlib.Core.Bool.{Bool, true, false}
 use mathlib.Core.List.{List, [], _∷_, _++_, map, append-assoc, append-nil}

@@ -1,5 +1,4 @@
 -- A piece of a tree as the proofs see it: its nodes in preorder, its depth, and a test of its fields. Every kind of tree is put together from a few forms.
---
 use mathlib.Core.Path.{_≡_, refl, sym, ap, _∙_}
 use mathlib.Core.Bool.{Bool, true, _&&_, and-assoc}
 use mathlib.Core.List.{List, [], _∷_, _++_, append-assoc}

@@ -1,5 +1,4 @@
 -- Plain scripts in files: a file that is read is plain where its entries are allowed (Under.antt); a refused one is not plain.
---
 use mathlib.Core.Path.{_≡_, refl, ap, _∙_}
 use mathlib.Core.Bool.{Bool, false}
 use mathlib.Core.List.{List}

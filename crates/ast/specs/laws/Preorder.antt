@@ -1,5 +1,4 @@
 -- A tree is plain where its entries in preorder are allowed (Under.antt): by induction over the tree.
---
 use mathlib.Core.Path.{_≡_, refl, sym, ap, _∙_}
 use mathlib.Core.Bool.{Bool, true, false, cond, _&&_, and-assoc, and-true}
 use mathlib.Core.List.{List, [], _∷_, _++_, append-assoc, append-nil}

@@ -1,5 +1,4 @@
 -- A file that is read: its entries and its nodes' bodies are those of the tree, and the tree is within the limits.
---
 use mathlib.Core.Path.{_≡_, refl, sym, ap, _∙_}
 use mathlib.Core.Bool.{Bool, true, false}
 use mathlib.Core.List.{List, [], _∷_}

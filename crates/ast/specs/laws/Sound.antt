@@ -1,6 +1,5 @@
 -- What is parsed was spelt: the nodes taken are the tree's nodes in preorder. One law for a test, for a bind and for children one after the other; then
 -- a clause for each kind.
---
 use mathlib.Core.Path.{_≡_, refl, sym, ap, ap₂, _∙_}
 use mathlib.Core.Bool.{Bool, true, false, cond, _&&_}
 use mathlib.Core.List.{List, [], _∷_, _++_, append-assoc, append-nil}

@@ -1,5 +1,4 @@
 -- Tests: what a conjunction, a range, and a test of each number or of each element say.
---
 use mathlib.Core.Path.{_≡_, refl, ap}
 use mathlib.Core.Bool.{Bool, true, false, _&&_}
 use mathlib.Core.List.{List, [], _∷_, map}

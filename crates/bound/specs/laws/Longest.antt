@@ -1,5 +1,4 @@
 -- The longest array literal of a tree by its entries: by induction over the tree.
---
 use mathlib.Core.Path.{_≡_, refl}
 use mathlib.Core.Bool.{true, false}
 use mathlib.Core.List.{List, [], _∷_, _++_}

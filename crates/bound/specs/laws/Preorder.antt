@@ -1,5 +1,4 @@
 -- The entries' weights of a plain tree sum up to its cost: by induction over the tree.
---
 use mathlib.Core.Path.{_≡_, refl, sym, ap, _∙_}
 use mathlib.Core.Bool.{Bool, true, false, cond}
 use mathlib.Core.List.{List, [], _∷_, _++_, append-assoc, append-nil}

@@ -1,5 +1,4 @@
 -- From entries and files to the bound of the script that they hold, and where the number is the bound itself.
---
 use mathlib.Core.Path.{_≡_, refl, sym, ap, _∙_}
 use mathlib.Core.Bool.{Bool, true, false, cond}
 use mathlib.Core.List.{List, [], _∷_}

@@ -1,6 +1,5 @@
 -- `calls::run_used` meets its contract: a walk of its MIR, by hand. The progress is kept in a local, which is lent to `run::run` for a lifetime that the walk makes and taken back at its last value; the state's slice is lent again for another one and comes back (`Again.antt`); both go to `write_back`, the slice for good.
 -- All that the proof knows of the two callees is that each meets its contract.
---
 use mathlib.Core.Path.{_≡_, refl, sym, ap, _∙_, subst}
 use Prim.Native.Nat.{ℕ, _+_, _≤_, _<_, _^_}
 use mathlib.Core.List.{[], _∷_, List, _++_}

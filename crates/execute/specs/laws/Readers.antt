@@ -1,5 +1,4 @@
 -- One operand that is read: unary operators, increments and the length of an array, as operations of the model.
---
 use mathlib.Core.Path.{_≡_, refl, sym, ap, _∙_, subst}
 use mathlib.Core.Bool.{Bool, cond, not}
 use mathlib.Core.List.{List}

@@ -1,5 +1,4 @@
 -- Slots of one size in a list: the i-th slot, a slot that is written anew, from a list to its slots and back.
---
 use mathlib.Core.Path.{_≡_, refl, sym, ap, ap₂, _∙_}
 use mathlib.Core.List.{List, [], _∷_, _++_, map, append-assoc}
 use Prim.Native.Nat.{ℕ, zero, suc, _+_, _*_, _-_, _≤_, _<_}

@@ -1,5 +1,4 @@
 -- Whether there is a result. `isSome` is a definition; then what it says.
---
 use mathlib.Core.Path.{_≡_, refl}
 use mathlib.Core.Bool.{true, false}
 use mathlib.Core.Option.{Option, none, some}

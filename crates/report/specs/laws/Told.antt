@@ -1,5 +1,4 @@
 -- Laws of the report's fields: written one behind the other; for an answer of the model they are its report.
---
 use mathlib.Core.Path.{_≡_, refl, sym, ap, ap₂, _∙_}
 use mathlib.Core.Bool.{Bool, true, false, cond}
 use mathlib.Core.List.{List, [], _∷_, _++_}

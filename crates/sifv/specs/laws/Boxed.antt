@@ -1,5 +1,4 @@
 -- Items of a slot in its one form: their kinds and numbers lie there as they are stored.
---
 use mathlib.Core.Path.{_≡_, refl, sym, ap, _∙_}
 use mathlib.Core.Bool.{Bool, true, false, cond}
 use mathlib.Core.List.{List, [], _∷_}

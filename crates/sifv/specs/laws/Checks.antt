@@ -1,6 +1,5 @@
 -- Slots in the one form of a value that may be stored: what is checked, by the slot's first byte; and, for each loop of the checks, that one pass more extends
 -- the answer so far.
---
 use mathlib.Core.Path.{_≡_, refl, sym, ap, ap₂, _∙_}
 use mathlib.Core.Bool.{Bool, true, false, _&&_, and-false, and-assoc}
 use mathlib.Core.List.{List, [], _∷_, map}

@@ -1,5 +1,4 @@
 -- A slot's bytes tested one after the other, without the one form being made: the tests hold where the one form is the bytes.
---
 use mathlib.Core.Path.{_≡_, refl, sym, ap, ap₂, _∙_, subst}
 use mathlib.Core.Bool.{Bool, true, false, not, cond, _&&_, and-true, and-false, and-assoc, false≢true}
 use mathlib.Core.List.{List, [], _∷_, _++_, map, append-assoc}

@@ -1,5 +1,4 @@
 -- Slots in their one form: what their first bytes tell, and slots of 1 + 8 bytes that are written and moved.
---
 use mathlib.Core.Path.{_≡_, refl, sym, ap, ap₂, _∙_}
 use mathlib.Core.Bool.{Bool, true, false, cond}
 use mathlib.Core.List.{List, [], _∷_, _++_}

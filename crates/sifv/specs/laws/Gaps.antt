@@ -1,5 +1,4 @@
 -- A table's slot with a gap for one entry more: its kinds, numbers and keys are each moved up by one from the gap on.
---
 use mathlib.Core.Path.{_≡_, refl, sym, ap, ap₂, _∙_}
 use mathlib.Core.List.{List, [], _∷_, _++_, append-assoc}
 use Prim.Native.Nat.{ℕ, _+_, _*_, _-_, _≤_, _<_}

@@ -1,5 +1,4 @@
 -- A key that is put into a table's slot, or whose value is set; the value that a key has.
---
 use mathlib.Core.Path.{_≡_, refl, sym, ap, ap₂, _∙_}
 use mathlib.Core.Bool.{Bool, true, false}
 use mathlib.Core.List.{List, [], _∷_, _++_, map}

@@ -1,5 +1,4 @@
 -- What a slot shows by its first byte; the bytes of values without contents; slots that are written and moved.
---
 use mathlib.Core.Path.{_≡_, refl, sym, ap, _∙_}
 use mathlib.Core.Bool.{Bool, true, false, cond}
 use mathlib.Core.List.{List, [], _∷_, _++_}

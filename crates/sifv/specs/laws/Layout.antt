@@ -1,5 +1,4 @@
 -- Fields one after the other: each is found again at its place, whatever lies behind. Bytes filled up with zeros.
---
 use mathlib.Core.Path.{_≡_, refl, sym, ap, _∙_}
 use mathlib.Core.List.{List, [], _∷_, _++_, append-assoc}
 use Prim.Native.Nat.{ℕ, zero, suc, _+_, _-_, _≤_, _<_}

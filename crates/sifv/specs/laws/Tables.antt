@@ -1,5 +1,4 @@
 -- The entries of a table's slot: the value of a key is found by a walk over the keys.
---
 use mathlib.Core.Path.{_≡_, refl, sym, ap, ap₂, _∙_}
 use mathlib.Core.Bool.{false}
 use mathlib.Core.List.{List, [], _∷_}

@@ -1,5 +1,4 @@
 -- The mark: the turns of its loop, and that the kind bytes of names in their one form tell which are held.
---
 use mathlib.Core.Path.{_≡_, refl, sym, ap, ap₂, _∙_}
 use mathlib.Core.List.{List}
 use mathlib.Core.Option.{Option, none, some}

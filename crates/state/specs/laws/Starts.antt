@@ -1,5 +1,4 @@
 -- A state at its start: the function table and the first position of an accepted program, in cleared bytes.
---
 use mathlib.Core.Path.{_≡_, refl, sym, ap, ap₂, _∙_, subst}
 use mathlib.Core.Bool.{_&&_}
 use mathlib.Core.List.{List, _++_}

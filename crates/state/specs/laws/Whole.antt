@@ -1,5 +1,4 @@
 -- A run's bytes and the whole state: accepted bytes hold their machine; written back, they are the state's one form.
---
 use mathlib.Core.Path.{_≡_, refl, sym, ap, ap₂, _∙_, subst}
 use mathlib.Core.Bool.{true}
 use mathlib.Core.List.{List, [], _∷_, _++_, reverse, append-assoc}

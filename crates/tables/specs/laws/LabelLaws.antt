@@ -1,6 +1,5 @@
 -- The laws of the label table. Document 01, "Lowering rules that surprise": "The label table: 0 to 0, then each label to the last index entering it from
 -- another label". Where labels never decrease a label is entered once, at the first instruction that carries it; where they do, its last entry counts.
---
 use mathlib.Core.Path.{_≡_, refl, sym, ap, _∙_}
 use mathlib.Core.Bool.{Bool, true, false, cond, not, _&&_, and-false}
 use mathlib.Core.List.{[], _∷_}

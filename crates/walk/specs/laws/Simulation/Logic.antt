@@ -1,5 +1,4 @@
 -- The logic of the simulation: steps of a program, lowered code that stands in it, and what comes of a tree as a condition on the machine.
---
 use Prim.Native.Nat.{ℕ, suc, _+_, _^_, _≤_, _<_}
 use native.Mathlib.Nat.{zero-add, suc-add}
 use native.Mathlib.Omega.{arith}
