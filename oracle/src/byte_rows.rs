@@ -10,7 +10,7 @@ use crate::listing::op_text;
 use crate::program::code_of_text;
 use crate::program_bytes::{self, Code};
 use crate::rows::instr_text;
-use crate::state_bytes::Held;
+use crate::state_bytes::{read_slot, Held, SLOT};
 
 /// A row's words: brackets are words of their own.
 struct Words<'t> {
@@ -211,6 +211,19 @@ pub fn calls_of(table: &str) -> Result<usize, String> {
             words.end()?;
         }
         Ok(held)
+    })
+}
+
+/// Slots, each with whether it is accepted.
+pub fn slots_of(table: &str) -> Result<usize, String> {
+    each(&lists(table, "Row")?, table, |mut words| {
+        words.expect("row")?;
+        let (slot, accepted) = (words.buffer()?, words.truth()?);
+        words.end()?;
+        if slot.len() != SLOT {
+            return Err(format!("a slot of {} bytes", slot.len()));
+        }
+        Ok(read_slot(&slot).is_ok() == accepted)
     })
 }
 

@@ -4,7 +4,7 @@
 use std::fs;
 
 use crate::byte_rows::{
-    calls_of, programs_of as buffers_of, records_of, reports_of, states_of, written_of,
+    calls_of, programs_of as buffers_of, records_of, reports_of, slots_of, states_of, written_of,
 };
 use crate::listing::{listing, state_of_file, STEPS};
 use crate::program::run_text;
@@ -23,14 +23,15 @@ pub fn check(crates: &str) -> Result<(), String> {
     let records = records_of(&read("opc/proofs/Rows.antt")?)?
         + written_of(&read("opc/proofs/Written.antt")?)?;
     let buffers = buffers_of(&read("tables/proofs/Rows.antt")?)?;
+    let slots = slots_of(&read("sifv/proofs/Rows.antt")?)?;
     let states = states_of(&read("vm/proofs/Rows.antt")?)?;
     let reports = reports_of(&read("report/proofs/Rows.antt")?)?;
     let calls = calls_of(&read("lower/proofs/Rows.antt")?)?
         + calls_of(&read("boundary/proofs/Rows.antt")?)?;
     println!(
         "rows: {files} files, {programs} programs, {lowerings} lowerings, {readings} readings, \
-         {records} records, {buffers} program buffers, {states} states, {reports} reports and \
-         {calls} calls of the computed tables, as by the original"
+         {records} records, {buffers} program buffers, {slots} slots, {states} states, \
+         {reports} reports and {calls} calls of the computed tables, as by the original"
     );
     Ok(())
 }

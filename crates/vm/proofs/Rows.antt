@@ -1,7 +1,6 @@
 -- Which states are accepted, computed: each field at the end of its range and one past it, beside a program of some instructions and where none is lent
 -- (document 01, "Numbers given for the state", 10; docs/FORMATS.md, "State"). A row has the count of instructions, the state as runs of bytes, and whether it
--- is accepted; oracle/ compares every row with its own reader. The forms of a slot have their rows here, in register 0; the
--- one NaN and the order of keys are in crate sifv, Examples.antt.
+-- is accepted; oracle/ compares every row with its own reader. What a slot may hold has its rows in crate sifv.
 use Prim.Native.Nat.{ℕ}
 use mathlib.Core.Path.{_≡_, refl}
 use mathlib.Core.Bool.{Bool, true, false}
@@ -23,45 +22,10 @@ slots =
     row 1 (concat (zeros 24320 ∷ beBytes 1 2 ∷ zeros 14 ∷ beBytes 1 63 ∷ zeros 16368 ∷ beBytes 1 2 ∷ zeros 14 ∷ beBytes 1 63 ∷ zeros 6608 ∷ beBytes 1 128 ∷ zeros 31 ∷ [])) true refl ∷
     row 1 (concat (zeros 24320 ∷ beBytes 1 2 ∷ zeros 14 ∷ beBytes 1 64 ∷ zeros 23024 ∷ [])) false refl ∷
     row 1 (concat (zeros 24576 ∷ beBytes 1 2 ∷ zeros 14 ∷ beBytes 1 64 ∷ zeros 22743 ∷ beBytes 1 1 ∷ zeros 24 ∷ [])) false refl ∷
-    -- an unknown kind; a byte that the value does not use
-    row 1 (concat (beBytes 1 7 ∷ zeros 47359 ∷ [])) false refl ∷
+    -- a byte that the value does not use
     row 1 (concat (zeros 255 ∷ beBytes 1 1 ∷ zeros 47104 ∷ [])) false refl ∷
     -- a name that is held, without its bit
     row 1 (concat (zeros 24832 ∷ beBytes 1 4 ∷ zeros 22527 ∷ [])) false refl ∷
-    []
-
--- single values: the kind's byte, what it holds, zeros behind
-singles : List Row
-unfolding stateOk encodeState decodeState encodeSlot decodeSlot
-singles =
-    -- a Bl of 2; a Null with a payload
-    row 1 (concat (beBytes 1 3 ∷ zeros 14 ∷ beBytes 1 2 ∷ zeros 47344 ∷ [])) false refl ∷
-    row 1 (concat (beBytes 1 4 ∷ zeros 14 ∷ beBytes 1 1 ∷ zeros 47344 ∷ [])) false refl ∷
-    -- an array's item: the highest text; a text over 63; an unknown kind
-    row 1 (concat (beBytes 2 0x0501 ∷ zeros 14 ∷ beBytes 1 2 ∷ zeros 23 ∷ beBytes 8 63 ∷ zeros 47312 ∷ [])) true refl ∷
-    row 1 (concat (beBytes 2 0x0501 ∷ zeros 14 ∷ beBytes 1 2 ∷ zeros 23 ∷ beBytes 8 64 ∷ zeros 47312 ∷ [])) false refl ∷
-    row 1 (concat (beBytes 2 0x0501 ∷ zeros 14 ∷ beBytes 1 5 ∷ zeros 47343 ∷ [])) false refl ∷
-    []
-
--- arrays and tables by their length
-lengths : List Row
-unfolding stateOk encodeState decodeState encodeSlot decodeSlot
-lengths =
-    -- 24 items, and 25; 16 keys, and 17
-    row 1 (concat (beBytes 2 0x0518 ∷ zeros 14 ∷ replicate 24 4 ∷ zeros 47320 ∷ [])) true refl ∷
-    row 1 (concat (beBytes 2 0x0519 ∷ zeros 14 ∷ replicate 24 4 ∷ zeros 47320 ∷ [])) false refl ∷
-    row 1 (concat (beBytes 2 0x0610 ∷ zeros 14 ∷ replicate 16 4 ∷ zeros 200 ∷ beBytes 16 0x000102030405060708090a0b0c0d0e0f ∷ zeros 47112 ∷ [])) true refl ∷
-    row 1 (concat (beBytes 2 0x0611 ∷ zeros 14 ∷ replicate 17 4 ∷ zeros 199 ∷ beBytes 16 0x000102030405060708090a0b0c0d0e0f ∷ zeros 47112 ∷ [])) false refl ∷
-    []
-
--- a table's keys: texts below 64, each once
-keys : List Row
-unfolding stateOk encodeState decodeState encodeSlot decodeSlot
-keys =
-    -- the two highest; one over 63; a key twice
-    row 1 (concat (beBytes 2 0x0602 ∷ zeros 14 ∷ beBytes 2 0x0404 ∷ zeros 214 ∷ beBytes 2 0x3e3f ∷ zeros 47126 ∷ [])) true refl ∷
-    row 1 (concat (beBytes 2 0x0601 ∷ zeros 14 ∷ beBytes 1 4 ∷ zeros 215 ∷ beBytes 1 64 ∷ zeros 47127 ∷ [])) false refl ∷
-    row 1 (concat (beBytes 2 0x0602 ∷ zeros 14 ∷ beBytes 2 0x0404 ∷ zeros 214 ∷ beBytes 2 0x0303 ∷ zeros 47126 ∷ [])) false refl ∷
     []
 
 -- values and frames below their depths, 24 at most, and nothing above; return positions below the count

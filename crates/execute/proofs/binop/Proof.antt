@@ -9,7 +9,10 @@ use Rattle.execute.proofs.binop.Statement.{statement}
 use Rattle.execute.proofs.binop.Tie as tie
 
 kind-at-requires : tie.Need-kind-at-requires
-kind-at-requires c κs = let s = c .before .before .before in reg-formed (s .args .state .now) (s .pre .0) (s .args .src1) (s .pre .1) (c .before .reg .ensures)
+kind-at-requires c κs =
+    let s : tie.Start = search in
+    let r : tie.After-reg = search in
+    reg-formed (s .args .state .now) (s .pre .0) (s .args .src1) (s .pre .1) (r .reg .ensures)
 
 truth-at-requires : tie.Need-truth-at-requires
 truth-at-requires c κs =
@@ -60,10 +63,12 @@ number-at-requires-2 c κs =
 
 returns-4 : tie.Need-returns-4
 returns-4 c =
-    let s = c .before .before .before .before .before .before .before .before .before .before .before in
+    let s : tie.Start = search in
+    let a : tie.After-reg = search in
+    let d : tie.After-reg2 = search in
     let b = s .args .state .now in
     binop-numbers (binModel (s .args .kind)) (RegNoContents (s .args .src1)) (RegNoContents (s .args .src2))
-    (sym (reg-value b (s .pre .0) (s .args .src1) (s .pre .1) (c .before .before .before .before .before .before .before .before .before .reg .ensures)) ∙ c .before .before .number-at .ensures) (sym (reg-value b (s .pre .0) (s .args .src2) (s .pre .2) (c .before .before .before .before .before .before .before .before .reg2 .ensures)) ∙ c .before .number-at2 .ensures) (c .numbers .ensures)
+    (sym (reg-value b (s .pre .0) (s .args .src1) (s .pre .1) (a .reg .ensures)) ∙ c .before .before .number-at .ensures) (sym (reg-value b (s .pre .0) (s .args .src2) (s .pre .2) (d .reg2 .ensures)) ∙ c .before .number-at2 .ensures) (c .numbers .ensures)
 
 pub binop-spec : {M : Type 1} → statement M
 binop-spec =
