@@ -363,6 +363,16 @@ impl Library {
     }
 
     /// The names of items.
+    /// The definitions of these files that are not among the needs.
+    pub fn spare(&self, paths: &BTreeSet<String>, needs: &BTreeSet<Need>) -> Vec<String> {
+        let mut out = Vec::new();
+        for (f, file) in self.files.iter().enumerate().filter(|(_, file)| paths.contains(&file.path)) {
+            let spare = (0..file.items.len()).filter(|i| !file.items[*i].law && !needs.contains(&(f, *i)));
+            out.extend(spare.map(|i| format!("{}: only proofs need {}", file.path, file.items[i].names[0])));
+        }
+        out
+    }
+
     pub fn names(&self, needs: &BTreeSet<Need>, path: &str) -> Vec<String> {
         needs.iter().filter(|(f, _)| self.files[*f].path == path).map(|(f, i)| self.files[*f].items[*i].names[0].clone()).collect()
     }

@@ -14,6 +14,9 @@ const PUBLIC: [(&str, &str); 6] = [
     ("crates/listing/src/main.rt", "listing"),
 ];
 
+/// The leaves as C functions: for `compare/` alone, no promise.
+const COMPARED: &str = "crates/leaves/src/lib.rt";
+
 /// What the contracts need: of the public functions, and of all other functions.
 pub fn needs(root: &Path, library: &Library) -> Result<(BTreeSet<Need>, BTreeSet<Need>), String> {
     let mut public = BTreeSet::new();
@@ -23,8 +26,12 @@ pub fn needs(root: &Path, library: &Library) -> Result<(BTreeSet<Need>, BTreeSet
         let text = fs::read_to_string(&path).map_err(|e| format!("{}: {e}", path.display()))?;
         let name = path.strip_prefix(root).unwrap_or(&path).to_string_lossy().into_owned();
         let (imports, aliases) = imported(&text);
+        let called_from_c = |function: &str| text.contains(&format!("extern \"C\" fn {function}("));
         for (function, cited) in contracts(&text) {
             let promised = PUBLIC.contains(&(name.as_str(), function.as_str()));
+            if called_from_c(&function) && !promised && name != COMPARED {
+                return Err(format!("{name}: {function} may be called from C, and its contract is on no list"));
+            }
             met += usize::from(promised);
             let needed = cited.iter().filter_map(|token| resolve(library, &imports, &aliases, token));
             if promised {

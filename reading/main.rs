@@ -54,9 +54,11 @@ fn run(root: &Path, show: &str) -> Result<String, Vec<String>> {
     if show == "show" {
         return Ok(shown(&library, &needed, &cited));
     }
-    faults.extend(library.shared_names(&needed.union(&cited).copied().collect()));
-    let believed = library.files(&needed).difference(&claims.tables).cloned().collect();
+    let used: BTreeSet<Need> = needed.union(&cited).copied().collect();
+    faults.extend(library.shared_names(&used));
+    let believed: BTreeSet<String> = library.files(&needed).difference(&claims.tables).cloned().collect();
     let cited = library.files(&cited);
+    faults.extend(library.spare(&believed, &used));
     faults.extend(claims.compare(&believed, &cited, &library));
     if faults.is_empty() {
         Ok(format!(

@@ -20,14 +20,24 @@ pub fn check(crates: &str) -> Result<(), String> {
     let programs = programs_of(&read("engine/proofs/Programs.antt")?)?;
     let lowerings = lowerings_of(&read("compiler/proofs/Computed.antt")?)?;
     let readings = readings_of(&read("ast/proofs/Computed.antt")?)?;
-    let records = records_of(&read("opc/proofs/Rows.antt")?)?
-        + written_of(&read("opc/proofs/Written.antt")?)?;
-    let buffers = buffers_of(&read("tables/proofs/Rows.antt")?)?;
-    let slots = slots_of(&read("sifv/proofs/Rows.antt")?)?;
-    let states = states_of(&read("vm/proofs/Rows.antt")?)?;
-    let reports = reports_of(&read("report/proofs/Rows.antt")?)?;
-    let calls = calls_of(&read("lower/proofs/Rows.antt")?)?
-        + calls_of(&read("boundary/proofs/Rows.antt")?)?;
+    // rows on bytes, a line each: every line that ends in a proof has to have been read
+    let each_read = |name: &str, rows_of: fn(&str) -> Result<usize, String>| {
+        let table = read(name)?;
+        let (rows, read) = (table.matches("refl ∷\n").count(), rows_of(&table)?);
+        if rows == read {
+            Ok(read)
+        } else {
+            Err(format!("{name}: {read} of {rows} rows read"))
+        }
+    };
+    let records = each_read("opc/proofs/Rows.antt", records_of)?
+        + each_read("opc/proofs/Written.antt", written_of)?;
+    let buffers = each_read("tables/proofs/Rows.antt", buffers_of)?;
+    let slots = each_read("sifv/proofs/Rows.antt", slots_of)?;
+    let states = each_read("vm/proofs/Rows.antt", states_of)?;
+    let reports = each_read("report/proofs/Rows.antt", reports_of)?;
+    let calls = each_read("lower/proofs/Rows.antt", calls_of)?
+        + each_read("boundary/proofs/Rows.antt", calls_of)?;
     println!(
         "rows: {files} files, {programs} programs, {lowerings} lowerings, {readings} readings, \
          {records} records, {buffers} program buffers, {slots} slots, {states} states, \

@@ -27,8 +27,8 @@ fn allowed(under: u64, kind: u64) -> bool
     !absent(kind) & ((!own | (under == 7)) & (!truth | holds_truth(under)))
 }
 
-// One more than the subtrees left before the second child of a 14 (ArrayMut), or 0. A node behind a leaf has its parent further up, and there what 17 allows is
-// right under every parent but a 14: so `left` counts down the subtrees until that child.
+// One more than the subtrees left before the second child of a 14 (ArrayMut), or 0. The parent of a node that does not follow it
+// directly is further up; every such parent but a 14 allows what a 17 (BinaryExpr) allows, so the one place to find is a 14's second child.
 fn waits(left: u64, kind: u64, count: u64) -> u64
     requires { ⌜ (left ≤ 1048576) × (count < 256) ⌝ }
     ensures { λ r. ⌜ (r ≡ Rule.waits left kind count) × (r ≤ left + 257) ⌝ }

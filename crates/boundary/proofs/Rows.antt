@@ -127,7 +127,7 @@ runs =
     run pops (concat (zeros 40960 ∷ beBytes 1 4 ∷ zeros 255 ∷ beBytes 1 3 ∷ zeros 14 ∷ beBytes 1 1 ∷ zeros 5872 ∷ beBytes 2 2 ∷ zeros 2 ∷ beBytes 2 1 ∷ zeros 236 ∷ beBytes 2 0x0202 ∷ zeros 18188 ∷ [])) 2 (replicate 48 7) 0 (concat (zeros 24320 ∷ beBytes 1 3 ∷ zeros 14 ∷ beBytes 1 1 ∷ zeros 16624 ∷ beBytes 1 4 ∷ zeros 6143 ∷ beBytes 2 2 ∷ zeros 230 ∷ beBytes 8 2 ∷ beBytes 2 2 ∷ beBytes 2 0x0101 ∷ zeros 18188 ∷ [])) (concat (beBytes 1 2 ∷ zeros 39 ∷ beBytes 8 2 ∷ [])) refl ∷
     []
 
--- read_name: unset, a number, an array, a table; a longer buffer is untouched behind; the highest position
+-- read_name: unset, a number, an array, a table; a longer buffer is untouched behind; the highest position, in a longer state
 reads : List Row
 unfolding startCall runCall readCall decodeProgram stateOk encodeState decodeState encodeSlot decodeSlot ofBits toBits
 reads =
@@ -135,5 +135,5 @@ reads =
     read values 1 (replicate 256 7) 0 (concat (beBytes 1 1 ∷ zeros 7 ∷ beBytes 8 0x4000000000000000 ∷ zeros 240 ∷ [])) refl ∷
     read values 2 (replicate 260 7) 0 (concat (beBytes 2 0x0502 ∷ zeros 14 ∷ beBytes 2 0x0203 ∷ zeros 22 ∷ beBytes 16 0x00000000000000050000000000000001 ∷ zeros 200 ∷ replicate 4 7 ∷ [])) refl ∷
     read values 63 (replicate 256 7) 0 (concat (beBytes 2 0x0602 ∷ zeros 14 ∷ beBytes 2 0x0401 ∷ zeros 30 ∷ beBytes 8 0x3ff0000000000000 ∷ zeros 176 ∷ beBytes 2 0x0307 ∷ zeros 22 ∷ [])) refl ∷
-    read (concat (zeros 47344 ∷ beBytes 2 1024 ∷ zeros 18190 ∷ [])) 0 (replicate 256 7) 0 (zeros 256) refl ∷
+    read (concat (zeros 47344 ∷ beBytes 2 1024 ∷ zeros 18194 ∷ [])) 0 (replicate 256 7) 0 (zeros 256) refl ∷
     []

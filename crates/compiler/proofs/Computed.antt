@@ -424,7 +424,7 @@ rows =
     row 31 0x0005020601010107010e0213001600666f72746d7061013ff0000000000000
     (script (ExprStmt (ArrayMut 1 (Literal one) (Literal (Truth true))) ∷ []))
     (refused 6) refl refl ∷
-    -- once a register is taken it is read again instead
+    -- where a register was taken before, that one is read in its place
     row 59 0x000d02060101030701150007011102100113001001130007010e0216001700666f72746d7061010101400000000000000001400000000000000001
     (script (ExprStmt (Name 1) ∷ ExprStmt (BinaryExpr Plus (VarAssign 1 (Expression (Literal two))) (VarAssign 1 (Expression (Literal two)))) ∷ ExprStmt (ArrayMut 1 (Literal (Truth true)) (Literal (Truth false))) ∷ []))
     (program 0 (

@@ -263,7 +263,7 @@ fn on(loc: Loc) -> Loc
     }
 }
 
-pub fn stepped(loc: Loc, did: Did) -> Step
+fn stepped(loc: Loc, did: Did) -> Step
     requires { ⌜ loc .pos ≤ 1024 ⌝ }
     ensures { λ r. ⌜ r ≡ steppedOf loc did ⌝ }
 {
@@ -288,7 +288,7 @@ pub fn slot(x: usize) -> usize
 }
 
 // A value into register dest, or the stop: the one writer of what the readers below get.
-pub fn loads(state: &mut [u8], loc: Loc, dest: usize, got: Got) -> Step
+fn loads(state: &mut [u8], loc: Loc, dest: usize, got: Got) -> Step
     requires { ⌜ Neat (now state) × (loc .pos ≤ 1024) × (dest < 96) ⌝ }
     ensures { λ r. ⌜ Loaded (now (state .entry)) (now (state .exit)) dest loc got r ⌝ }
 {
@@ -303,7 +303,7 @@ pub fn loads(state: &mut [u8], loc: Loc, dest: usize, got: Got) -> Step
 
 // ---- operators
 
-pub fn numbers(kind: BinOpKind, x: f64, y: f64) -> Got
+fn numbers(kind: BinOpKind, x: f64, y: f64) -> Got
     ensures { λ r. ⌜ ReadsSingle (Operation.one (Operation.numbers (binModel kind) x y)) r ⌝ }
 {
     match kind {
@@ -594,7 +594,7 @@ fn mv(state: &mut [u8], src: usize, dest: usize) -> Did
 }
 
 // A slot into a name; nothing is stored as Null.
-pub fn store(state: &mut [u8], from: usize, name: usize) -> Did
+fn store(state: &mut [u8], from: usize, name: usize) -> Did
     requires { ⌜ Neat (now state) × (name < 64) × (from + 256 ≤ length (now state)) × Formed (part (now state) from 256) × (from % 256 ≡ 0) ⌝ }
     ensures { λ r. ⌜ Named (now (state .entry)) (now (state .exit)) (Operation.Ok (Operation.put (namesOf (now (state .entry))) name (Operation.orNull (decodeSlot (part (now (state .entry)) from 256))))) r ⌝ }
 {
@@ -802,14 +802,7 @@ fn taken(kind: JmpOpKind, b: bool) -> bool
     }
 }
 
-pub fn branch(
-    program: &[u8],
-    state: &[u8],
-    loc: Loc,
-    kind: JmpOpKind,
-    src: usize,
-    lblidx: u64,
-) -> Step
+fn branch(program: &[u8], state: &[u8], loc: Loc, kind: JmpOpKind, src: usize, lblidx: u64) -> Step
     requires { ⌜ ProgramReady (now program) (programIn (now program)) × Neat (now state) × Holds (now state) (view (now state) loc) × (loc .pos ≤ 1024) × (src < 96) × (lblidx < 1024) ⌝ }
     ensures { λ r. ⌜ Stepped (now (state .entry)) (now (state .entry)) (Machine.branch (view (now (state .entry)) loc) (jmpModel kind) (Operation.full Rule.TyMismatch (regsOf (now (state .entry)) src) (λ v. Operation.truth v)) (labelAt (programIn (now (program .entry)) .code) lblidx)) r ⌝ }
 {

@@ -1,5 +1,5 @@
 -- The line of the bound, or of none.
-use mathlib.Core.Path.{_≡_, sym, ap, _∙_, subst}
+use mathlib.Core.Path.{_≡_, sym, ap, _∙_}
 use mathlib.Core.Bool.{Bool, true, cond}
 use mathlib.Core.List.{List, _++_}
 use Prim.Native.Nat.{ℕ, _%_}
@@ -14,6 +14,7 @@ use Rattle.compiler.specs.Lower.{lower, lowered}
 use Rattle.walk.specs.Bound.{bound}
 use Rattle.text.specs.Text.{ascii, decimal}
 use Rattle.text.specs.Put.{Put}
+use Rattle.text.specs.laws.PutLaws.{put-as}
 use Rattle.bound.specs.inner.Weights.{limit}
 use Rattle.bound.specs.inner.BoundOf.{boundOf}
 use Rattle.bound.specs.laws.Whole.{bound-fits, bound-tells}
@@ -29,10 +30,10 @@ module _ (f : List ℕ) {n : ℕ} (h : n ≡ boundOf (readTree f) % limit) {t : 
 
   module _ {out : List ℕ} {at : ℕ} {out' : List ℕ} {r : ℕ} where
     pub no-bound : n ≡ 0 → Put out at (ascii "bound none\n") out' r → Put out at (boundLine (plain t) (bound t)) out' r
-    no-bound z w = subst (λ (b : Bool). Put out at (boundLine b (bound t)) out' r) (sym (tells ∙ ap (ltb 0) z)) w
+    no-bound z w = put-as (ap (λ (b : Bool). boundLine b (bound t)) (tells ∙ ap (ltb 0) z)) w
 
     pub plain-bound : (n ≡ 0 → ⊥) → Put out at ((ascii "bound " ++ decimal n) ++ ascii "\n") out' r → Put out at (boundLine (plain t) (bound t)) out' r
     plain-bound z w =
         let y : plain t ≡ true = tells ∙ lt-ltb 0 n (omega arith) in
         let k : n ≡ bound t = told ∙ ap (λ (b : Bool). cond b (bound t) 0) y in
-        subst (λ (b : Bool). Put out at (boundLine b (bound t)) out' r) (sym y) (subst (λ (m : ℕ). Put out at (boundLine true m) out' r) k w)
+        put-as (ap (λ (b : Bool). boundLine b (bound t)) y ∙ ap (boundLine true) (sym k)) w

@@ -24,7 +24,8 @@ use Rattle.boundary.specs.Calls.{RunAnswered, startCall, runRefused, ranOut, ru
 use Rattle.engine.specs.laws.Accepting.{accepts}
 use Rattle.engine.specs.laws.ListLaws.{Holds, holds-over, run-answers}
 use Rattle.text.specs.Put.{Put}
-use Rattle.text.specs.laws.PutLaws.{put-then, put-within}
+use Rattle.text.specs.laws.PutLaws.{put-as, put-within}
+use Rattle.text.specs.laws.Joined.{put-three}
 use Rattle.ops.specs.ProgramText.{programText}
 use Rattle.ending.specs.Ending.{ranText}
 use Rattle.ending.specs.laws.Left.{RunLeft}
@@ -46,7 +47,7 @@ by-read (Tree t) b h = by-lowered t (lower t) b h
 pub listing-refused : (file program : List ℕ) {n : ℕ} {b : List ℕ} → programSize ≤ length program → answered n b ≡ lowerCall file program → (n ≡ 0 → ⊥) → listing file ≡ refusedText n
 unfolding lowerCall listing
 listing-refused file program {n} {b} h e z =
-    let g : lowerCall file program ≡ lowerRead (readTree file) program = ap (λ (c : Bool). cond c (answered 9 program) (lowerRead (readTree file) program)) (le-ltb (length program) programSize h) in
+    let g : lowerCall file program ≡ lowerRead (readTree file) program = rw (le-ltb (length program) programSize h) in
     let k : n ≡ lowerRead (readTree file) program .result = ap (λ (a : Answered). a .result) (e ∙ g) in
     by-read (readTree file) program (λ w. z (k ∙ w)) ∙ ap refusedText (sym k)
 
@@ -113,7 +114,7 @@ module _ {file program state told : List ℕ} (m : Made file program state told)
   begun = omega arith
 
   first : Put out 0 (programText (m .made)) out₁ r₁
-  first = subst (λ (q : Program). Put out 0 (programText q) out₁ r₁) (program-of m) a
+  first = put-as (ap programText (sym (program-of m))) a
 
   second : Put out₁ r₁ (boundLine (plain (m .tree)) (bound (m .tree))) out₂ r₂
   second = b (m .tree) (m .made) (m .reads) (m .lowers)
@@ -122,6 +123,4 @@ module _ {file program state told : List ℕ} (m : Made file program state told)
   bound-within = put-within (put-within begun first) second
 
   pub listed : {out₃ : List ℕ} {r₃ : ℕ} → Put out₂ r₂ (ranIn state told) out₃ r₃ → Put out 0 (listing file) out₃ r₃
-  listed {out₃} {r₃} c =
-      subst (λ (x : List ℕ). Put out 0 x out₃ r₃) (sym (listing-made m))
-      (put-then begun first (put-then (put-within begun first) second (subst (λ (x : List ℕ). Put out₂ r₂ x out₃ r₃) (left-text (m .left)) c)))
+  listed c = put-as (listing-made m) (put-three begun first second (put-as (sym (left-text (m .left))) c))

@@ -48,8 +48,9 @@ pub fn index_of(x: f64) -> u64
     cut(x + 0.0)
 }
 
-// The bit pattern of a number, with one pattern for every NaN. The second fact is for callers: it
-// follows from the first only for an x that fits its format, which a caller need not show.
+// The bit pattern of a number, with one pattern for every NaN. That the
+// pattern reads back as x follows from the first equation only for an x that fits its format: it is
+// said here so that no caller has to show that.
 pub fn bits_of(x: f64) -> u64
     ensures { λ r. ⌜ (r ≡ bitsOf x) × (Ieee.ofBits binary64 r ≡ x) ⌝ }
 {

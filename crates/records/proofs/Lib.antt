@@ -1,3 +1,4 @@
+pub mod Missed
 pub mod Scan
 pub mod Bits
 pub mod Places

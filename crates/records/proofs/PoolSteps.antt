@@ -1,5 +1,5 @@
 -- Steps through the pool.
-use mathlib.Core.Path.{_≡_, refl, sym, ap, ap₂, _∙_}
+use mathlib.Core.Path.{_≡_, refl, sym, ap, _∙_}
 use mathlib.Core.Bool.{Bool, true, false, cond, _&&_, _||_, and-true}
 use mathlib.Core.List.{List}
 use mathlib.Core.Logic.{_⊎_, inl, inr, ⊎-elim}
@@ -17,36 +17,6 @@ use Rattle.opc.specs.inner.Fetch.{recordAt}
 pub span-ends : (most n w p : ℕ) → spanFits most n w p ≡ true → p + n ≤ 1024
 span-ends most n w p e =
     leb-true (p + n) 1024 (and-right (eqb w p) (leb (p + n) 1024) (and-right (leb n most) (eqb w p && leb (p + n) 1024) e))
-
--- ---- the entries of a record
-
-module _ (b : List ℕ) (f : Fields) (most lo hi p : ℕ) {n w : ℕ} {s : Bool} (en : n ≡ f .len) (ew : w ≡ f .word) (es : s ≡ spanFits most n w p) where
-  span-is : spanFits most (f .len) (f .word) p ≡ s
-  span-is = ap₂ (λ (x y : ℕ). spanFits most x y p) (sym en) (sym ew) ∙ sym es
-
-  entries-are : {fit : Bool} → s ≡ true → fit ≡ allFrom n p (entryOk lo hi b) → entriesFit most lo hi f p b ≡ fit
-  entries-are t e = ap₂ (λ (x y : Bool). x && y) (span-is ∙ t) (ap (λ (x : ℕ). allFrom x p (entryOk lo hi b)) (sym en) ∙ sym e)
-
-  pub span-fits : {fit : Bool} → s ≡ true → fit ≡ allFrom n p (entryOk lo hi b) → fit ≡ true → p + n ≡ cond (entriesFit most lo hi f p b) (p + f .len) 1025
-  span-fits t e q = ap (λ (x : ℕ). p + x) en ∙ ap (λ (x : Bool). cond x (p + f .len) 1025) (sym (entries-are t e ∙ q))
-
-  pub span-unfit : {fit : Bool} → s ≡ true → fit ≡ allFrom n p (entryOk lo hi b) → fit ≡ false → 1025 ≡ cond (entriesFit most lo hi f p b) (p + f .len) 1025
-  span-unfit t e q = ap (λ (x : Bool). cond x (p + f .len) 1025) (sym (entries-are t e ∙ q))
-
-  pub span-fails : s ≡ false → 1025 ≡ cond (entriesFit most lo hi f p b) (p + f .len) 1025
-  span-fails t = ap (λ (x : Bool). cond (x && allFrom (f .len) p (entryOk lo hi b)) (p + f .len) 1025) (sym (span-is ∙ t))
-
--- ---- by what a record is
-
-module _ (b : List ℕ) (f : Fields) (p : ℕ) {r : ℕ} where
-  pub pooled-array : isArray (f .code) (f .kind) ≡ true → r ≡ cond (entriesFit 24 1 4 f p b) (p + f .len) 1025 → r ≡ cond (pooled f p b) (p + taken f) 1025
-  pooled-array e h = rw e h
-
-  pub pooled-fn : isArray (f .code) (f .kind) ≡ false → eqb (f .code) 16 ≡ true → r ≡ cond (entriesFit 255 2 2 f p b) (p + f .len) 1025 → r ≡ cond (pooled f p b) (p + taken f) 1025
-  pooled-fn e g h = rw (e, g) h
-
-  pub pooled-none : isArray (f .code) (f .kind) ≡ false → eqb (f .code) 16 ≡ false → r ≡ p → r ≡ cond (pooled f p b) (p + taken f) 1025
-  pooled-none e g h = rw (e, g) (h ∙ sym (add-zero p))
 
 -- an operation that has no entries
 pub none-pooled : (o k : ℕ) → (isLiteral o || eqb o 16) ≡ false → (isArray o k ≡ false) × (eqb o 16 ≡ false)

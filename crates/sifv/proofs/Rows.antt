@@ -22,10 +22,15 @@ singles =
     row (concat (beBytes 1 3 ∷ zeros 14 ∷ beBytes 1 2 ∷ zeros 240 ∷ [])) false refl ∷
     row (concat (beBytes 1 4 ∷ zeros 14 ∷ beBytes 1 1 ∷ zeros 240 ∷ [])) false refl ∷
     row (concat (zeros 255 ∷ beBytes 1 1 ∷ [])) false refl ∷
-    -- an array's item: the highest text; a text over 63; an unknown kind
+    -- an array's item: the highest text; a text over 63; an unknown kind; a Bl of 2; a Null with a payload
     row (concat (beBytes 2 0x0501 ∷ zeros 14 ∷ beBytes 1 2 ∷ zeros 23 ∷ beBytes 8 63 ∷ zeros 208 ∷ [])) true refl ∷
     row (concat (beBytes 2 0x0501 ∷ zeros 14 ∷ beBytes 1 2 ∷ zeros 23 ∷ beBytes 8 64 ∷ zeros 208 ∷ [])) false refl ∷
     row (concat (beBytes 2 0x0501 ∷ zeros 14 ∷ beBytes 1 5 ∷ zeros 239 ∷ [])) false refl ∷
+    row (concat (beBytes 2 0x0501 ∷ zeros 14 ∷ beBytes 1 3 ∷ zeros 23 ∷ beBytes 8 2 ∷ zeros 208 ∷ [])) false refl ∷
+    row (concat (beBytes 2 0x0501 ∷ zeros 14 ∷ beBytes 1 4 ∷ zeros 23 ∷ beBytes 8 1 ∷ zeros 208 ∷ [])) false refl ∷
+    -- a table's value: the highest text; a text over 63
+    row (concat (beBytes 2 0x0601 ∷ zeros 14 ∷ beBytes 1 2 ∷ zeros 23 ∷ beBytes 8 63 ∷ zeros 208 ∷ [])) true refl ∷
+    row (concat (beBytes 2 0x0601 ∷ zeros 14 ∷ beBytes 1 2 ∷ zeros 23 ∷ beBytes 8 64 ∷ zeros 208 ∷ [])) false refl ∷
     []
 
 -- arrays and tables by their length

@@ -5,8 +5,7 @@ use lib.Ieee.{binary64, fits}
 use Rattle.sifv.specs.Value.{Single, Num, Str, Bl, Null, Entry, Value, One, Arr, Tab}
 use mathlib.Core.Option.{Option, none, some}
 use Rattle.lent.specs.Bytes.{none, Each}
-use Rattle.sifv.specs.Slot.{value, singleOk}
-use mathlib.Core.Path.{_≡_}
+use Rattle.sifv.specs.Slot.{value}
 
 abbrev pub SingleFits : Single → Type 0
 SingleFits (Num x) = T (fits binary64 x)
@@ -19,7 +18,3 @@ ValueFits none = T true
 ValueFits (some (One s)) = SingleFits s
 ValueFits (some (Arr l)) = Each SingleFits l
 ValueFits (some (Tab t)) = Each (λ (e : Entry). SingleFits (value e)) t
-
--- what may be stored and fits
-abbrev pub Stored : Single → Type 0
-Stored s = (singleOk s ≡ true) × SingleFits s

@@ -85,8 +85,8 @@ fn whole(w: u64) -> u64
     w
 }
 
-// The number of a value. The second fact is for callers: it follows from v only where its number
-// fits its format, which a caller need not show.
+// The number of a value. That v reads back from it follows only where v's number fits its
+// format: it is said here so that no caller has to show that.
 pub fn word_of(v: SifVal) -> u64
     ensures { λ r. ⌜ (r ≡ wordIn v) × ReadBack (singleSeen v) ⌝ }
 {

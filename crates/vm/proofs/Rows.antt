@@ -24,8 +24,9 @@ slots =
     row 1 (concat (zeros 24576 ∷ beBytes 1 2 ∷ zeros 14 ∷ beBytes 1 64 ∷ zeros 22743 ∷ beBytes 1 1 ∷ zeros 24 ∷ [])) false refl ∷
     -- a byte that the value does not use
     row 1 (concat (zeros 255 ∷ beBytes 1 1 ∷ zeros 47104 ∷ [])) false refl ∷
-    -- a name that is held, without its bit
+    -- a name that is held, without its bit; a bit without its name
     row 1 (concat (zeros 24832 ∷ beBytes 1 4 ∷ zeros 22527 ∷ [])) false refl ∷
+    row 1 (concat (zeros 47335 ∷ beBytes 1 1 ∷ zeros 24 ∷ [])) false refl ∷
     []
 
 -- values and frames below their depths, 24 at most, and nothing above; return positions below the count
@@ -35,10 +36,11 @@ stacks =
     -- a value, a frame, functions of texts 0 and 63 and the position, all as high as 5 instructions allow; for 4 they are too high
     row 5 (concat (zeros 40960 ∷ beBytes 1 4 ∷ zeros 6143 ∷ beBytes 2 4 ∷ zeros 94 ∷ beBytes 2 5 ∷ zeros 124 ∷ beBytes 2 5 ∷ zeros 16 ∷ beBytes 2 5 ∷ beBytes 2 0x0101 ∷ zeros 12 ∷ [])) true refl ∷
     row 4 (concat (zeros 40960 ∷ beBytes 1 4 ∷ zeros 6143 ∷ beBytes 2 4 ∷ zeros 94 ∷ beBytes 2 5 ∷ zeros 124 ∷ beBytes 2 5 ∷ zeros 16 ∷ beBytes 2 5 ∷ beBytes 2 0x0101 ∷ zeros 12 ∷ [])) false refl ∷
-    -- a value with a text over 63; a depth with no value; a value above the depth
+    -- a value with a text over 63; a depth with no value; a value above the depth; a frame above the depth
     row 5 (concat (zeros 40960 ∷ beBytes 1 2 ∷ zeros 14 ∷ beBytes 1 64 ∷ zeros 6370 ∷ beBytes 1 1 ∷ zeros 13 ∷ [])) false refl ∷
     row 5 (concat (zeros 47346 ∷ beBytes 1 1 ∷ zeros 13 ∷ [])) false refl ∷
     row 5 (concat (zeros 40960 ∷ beBytes 1 4 ∷ zeros 6399 ∷ [])) false refl ∷
+    row 5 (concat (zeros 47104 ∷ beBytes 2 1 ∷ zeros 254 ∷ [])) false refl ∷
     -- 24 values and 24 frames; 25 values; 25 frames; a byte of a frame that is no position
     row 5 (concat (zeros 40960 ∷ beBytes 1 4 ∷ zeros 255 ∷ beBytes 1 4 ∷ zeros 255 ∷ beBytes 1 4 ∷ zeros 255 ∷ beBytes 1 4 ∷ zeros 255 ∷ beBytes 1 4 ∷ zeros 255 ∷ beBytes 1 4 ∷ zeros 255 ∷ beBytes 1 4 ∷ zeros 255 ∷ beBytes 1 4 ∷ zeros 255 ∷ beBytes 1 4 ∷ zeros 255 ∷ beBytes 1 4 ∷ zeros 255 ∷ beBytes 1 4 ∷ zeros 255 ∷ beBytes 1 4 ∷ zeros 255 ∷ beBytes 1 4 ∷ zeros 255 ∷ beBytes 1 4 ∷ zeros 255 ∷ beBytes 1 4 ∷ zeros 255 ∷ beBytes 1 4 ∷ zeros 255 ∷ beBytes 1 4 ∷ zeros 255 ∷ beBytes 1 4 ∷ zeros 255 ∷ beBytes 1 4 ∷ zeros 255 ∷ beBytes 1 4 ∷ zeros 255 ∷ beBytes 1 4 ∷ zeros 255 ∷ beBytes 1 4 ∷ zeros 255 ∷ beBytes 1 4 ∷ zeros 255 ∷ beBytes 1 4 ∷ zeros 255 ∷ zeros 242 ∷ beBytes 2 0x1818 ∷ zeros 12 ∷ [])) true refl ∷
     row 5 (concat (zeros 40960 ∷ beBytes 1 4 ∷ zeros 255 ∷ beBytes 1 4 ∷ zeros 255 ∷ beBytes 1 4 ∷ zeros 255 ∷ beBytes 1 4 ∷ zeros 255 ∷ beBytes 1 4 ∷ zeros 255 ∷ beBytes 1 4 ∷ zeros 255 ∷ beBytes 1 4 ∷ zeros 255 ∷ beBytes 1 4 ∷ zeros 255 ∷ beBytes 1 4 ∷ zeros 255 ∷ beBytes 1 4 ∷ zeros 255 ∷ beBytes 1 4 ∷ zeros 255 ∷ beBytes 1 4 ∷ zeros 255 ∷ beBytes 1 4 ∷ zeros 255 ∷ beBytes 1 4 ∷ zeros 255 ∷ beBytes 1 4 ∷ zeros 255 ∷ beBytes 1 4 ∷ zeros 255 ∷ beBytes 1 4 ∷ zeros 255 ∷ beBytes 1 4 ∷ zeros 255 ∷ beBytes 1 4 ∷ zeros 255 ∷ beBytes 1 4 ∷ zeros 255 ∷ beBytes 1 4 ∷ zeros 255 ∷ beBytes 1 4 ∷ zeros 255 ∷ beBytes 1 4 ∷ zeros 255 ∷ beBytes 1 4 ∷ zeros 255 ∷ zeros 242 ∷ beBytes 2 0x1918 ∷ zeros 12 ∷ [])) false refl ∷

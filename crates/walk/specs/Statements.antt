@@ -7,7 +7,7 @@ use Rattle.ast.specs.Tree.{Stmts}
 use Rattle.ast.specs.Plain.{plain}
 use Rattle.compiler.specs.Lower.{lowered, lower, Main, lowerTree, codeOf}
 use Rattle.walk.specs.Bound.{longest, total, bound}
-use Rattle.vm.specs.Machine.{step, started, run, Ran, Stopped}
+use Rattle.vm.specs.Machine.{step, started, run, Stopped}
 use Rattle.walk.specs.Walk.{Walked, walkCount, walkNames, walkEnd, walk}
 use Rattle.walk.specs.Runs.{nextStep, Runs}
 use Rattle.vm.specs.RuntimeErr.{RuntimeErr}
@@ -24,12 +24,6 @@ pub record Simulates (p : Program) (o : Walked (Unit {0})) : Type 0 where
   pub count : run p (walkCount o) (started p) .state .count ≡ walkCount o
   pub names : run p (walkCount o) (started p) .state .machine .names ≡ walkNames o
   pub next : step p (run p (walkCount o) (started p) .state .machine) ≡ nextStep o
-
--- A run ended as a walk did.
-pub record Ended (o : Walked (Unit {0})) (r : Ran) : Type 0 where
-  pub answer : r .answer ≡ walkEnd o
-  pub count : r .state .count ≡ walkCount o
-  pub names : r .state .machine .names ≡ walkNames o
 
 -- The walk's count is at most the bound, and less where the walk stops. The bound is a sum over what the lowering pushed, and that is the program.
 pub record Bounds (t : Stmts) (p : Program) : Type 0 where

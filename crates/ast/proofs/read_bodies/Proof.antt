@@ -10,40 +10,46 @@ returns : tie.Need-returns
 returns c = refuses _ 3 _ (sym (c .before .texts-ok .ensures) ∙ not-true (c .before .texts-ok .result) (c .if1 .taken))
 
 fields-ok-requires : tie.Need-fields-ok-requires
-fields-ok-requires c κs = (c .before .before .before .before .before .before .pre .0 .3, rw (to-end (c .before .before .before .before .before .before .args .total) (c .before .before .before .before .before .before .args .bodies .now)) (c .before .before .before .before .before .before .pre .1 .2))
+fields-ok-requires c κs =
+    let s : tie.Start = search in
+    (s .pre .0 .3, rw (to-end (s .args .total) (s .args .bodies .now)) (s .pre .1 .2))
 
 returns-2 : tie.Need-returns-2
 returns-2 c =
-    let a = c .before .before .before .before .before .before .before .before .args in
-    let e = rw (to-end (a .total) (a .bodies .now), c .before .before .before .before .before .before .before .before .pre .1 .0) at (c .before .fields-ok .ensures) in
+    let s : tie.Start = search in
+    let a = s .args in
+    let e = rw (to-end (a .total) (a .bodies .now), s .pre .1 .0) at (c .before .fields-ok .ensures) in
     passes _ 3 _ (sym (c .before .before .before .before .texts-ok .ensures) ∙ not-false (c .before .before .before .before .texts-ok .result) (c .before .before .before .if1 .left))
     (refuses _ 5 _ (sym e ∙ not-true (c .before .fields-ok .result) (c .if2 .taken)))
 
 structure-ok-requires : tie.Need-structure-ok-requires
 structure-ok-requires c κs =
-    let a = c .before .before .before .before .before .before .before .before .before .args in
+    let s : tie.Start = search in
+    let a = s .args in
     record {
       texts = a .count;
-      few = c .before .before .before .before .before .before .before .before .before .pre .0 .0;
-      room = rw (to-end (a .total) (a .bodies .now)) (c .before .before .before .before .before .before .before .before .before .pre .1 .2);
+      few = s .pre .0 .0;
+      room = rw (to-end (a .total) (a .bodies .now)) (s .pre .1 .2);
       fields = sym (c .before .before .fields-ok .ensures) ∙ not-false (c .before .before .fields-ok .result) (c .before .if2 .left);
     }
 
 returns-3 : tie.Need-returns-3
 returns-3 c =
-    let a = c .before .before .before .before .before .before .before .before .before .before .before .args in
-    let e = rw (to-end (a .total) (a .bodies .now), c .before .before .before .before .before .before .before .before .before .before .before .pre .1 .0) at (c .before .before .before .before .fields-ok .ensures) in
-    let g = rw (to-end (a .total) (a .bodies .now), c .before .before .before .before .before .before .before .before .before .before .before .pre .1 .0) at (c .before .structure-ok .ensures) in
-    passes _ 3 _ (sym (c .before .before .before .before .before .before .before .texts-ok .ensures) ∙ not-false (c .before .before .before .before .before .before .before .texts-ok .result) (c .before .before .before .before .before .before .if1 .left))
+    let else1 : tie.Else1 = search in let at-texts-ok : tie.After-texts-ok = search in let s : tie.Start = search in
+    let a = s .args in
+    let e = rw (to-end (a .total) (a .bodies .now), s .pre .1 .0) at (c .before .before .before .before .fields-ok .ensures) in
+    let g = rw (to-end (a .total) (a .bodies .now), s .pre .1 .0) at (c .before .structure-ok .ensures) in
+    passes _ 3 _ (sym (at-texts-ok .texts-ok .ensures) ∙ not-false (at-texts-ok .texts-ok .result) (else1 .if1 .left))
     (passes _ 5 _ (sym e ∙ not-false (c .before .before .before .before .fields-ok .result) (c .before .before .before .if2 .left))
     (refuses _ 4 _ (sym g ∙ not-true (c .before .structure-ok .result) (c .if3 .taken))))
 
 returns-4 : tie.Need-returns-4
 returns-4 c =
-    let a = c .before .before .before .before .before .before .before .before .before .before .before .args in
-    let e = rw (to-end (a .total) (a .bodies .now), c .before .before .before .before .before .before .before .before .before .before .before .pre .1 .0) at (c .before .before .before .before .fields-ok .ensures) in
-    let g = rw (to-end (a .total) (a .bodies .now), c .before .before .before .before .before .before .before .before .before .before .before .pre .1 .0) at (c .before .structure-ok .ensures) in
-    passes _ 3 _ (sym (c .before .before .before .before .before .before .before .texts-ok .ensures) ∙ not-false (c .before .before .before .before .before .before .before .texts-ok .result) (c .before .before .before .before .before .before .if1 .left))
+    let else1 : tie.Else1 = search in let at-texts-ok : tie.After-texts-ok = search in let s : tie.Start = search in
+    let a = s .args in
+    let e = rw (to-end (a .total) (a .bodies .now), s .pre .1 .0) at (c .before .before .before .before .fields-ok .ensures) in
+    let g = rw (to-end (a .total) (a .bodies .now), s .pre .1 .0) at (c .before .structure-ok .ensures) in
+    passes _ 3 _ (sym (at-texts-ok .texts-ok .ensures) ∙ not-false (at-texts-ok .texts-ok .result) (else1 .if1 .left))
     (passes _ 5 _ (sym e ∙ not-false (c .before .before .before .before .fields-ok .result) (c .before .before .before .if2 .left))
     (passes _ 4 0 (sym g ∙ not-false (c .before .structure-ok .result) (c .if3 .left)) refl))
 

@@ -51,87 +51,32 @@ children-claims t = (subtree-below t, subtree.Post)
 abbrev subtree-claims : ℕ → subtree-lts.Claims
 subtree-claims t = (wide-reads.Asked, wide-reads.Learnt, children-below t, children.Post, whole-reads.Asked, whole-reads.Learnt)
 
-children-loop-holds :
-    (t : ℕ) →
-    children-lts.Need-loop-holds (children-claims t)
-    (children-at t)
-    children.Post
-    children-Inv-loop
-    children-μ-loop
-children-loop-holds t c = begins _ (c .before .pre .1 .2)
-
-children-subtree-requires : (t : ℕ) → children-lts.Need-subtree-requires (children-claims t) (children-at t) children.Post children-Inv-loop children-μ-loop
-children-subtree-requires t c κs = let s = c .before .before .before in (omega (arith, s .pre .0), (s .pre .1 .0, s .pre .1 .1, c .before .loop .inv .inside))
-
-children-add-cost :
-    (t : ℕ) →
-    children-lts.Need-add-cost (children-claims t)
-    (children-at t)
-    children.Post
-    children-Inv-loop
-    children-μ-loop
-children-add-cost t c = omega (arith, c .before .before .before .loop .inv .small, counts-small (c .before .subtree .ensures))
-
-children-sub-more :
-    (t : ℕ) →
-    children-lts.Need-sub-more (children-claims t)
-    (children-at t)
-    children.Post
-    children-Inv-loop
-    children-μ-loop
-children-sub-more t c = omega arith
-
-children-loop-less :
-    (t : ℕ) →
-    children-lts.Need-loop-less (children-claims t)
-    (children-at t)
-    children.Post
-    children-Inv-loop
-    children-μ-loop
-children-loop-less t c = omega arith
-
-children-loop-again :
-    (t : ℕ) →
-    children-lts.Need-loop-again (children-claims t)
-    (children-at t)
-    children.Post
-    children-Inv-loop
-    children-μ-loop
-children-loop-again t c = turn _ (c .before .before .before .loop .more) (c .before .before .loop-test .taken) (c .before .before .before .loop .inv) (c .before .subtree .ensures)
-
-children-returns :
-    (t : ℕ) →
-    children-lts.Need-returns (children-claims t)
-    (children-at t)
-    children.Post
-    children-Inv-loop
-    children-μ-loop
-children-returns t c = finish _ (c .before .loop .more) (omega arith) (c .before .loop .inv)
-
-subtree-returns : (t : ℕ) → subtree-lts.Need-returns (subtree-claims t) (subtree-at t) subtree.Post
-subtree-returns t c = let s = c .before .before in stops _ (s .args .depth) _ _ _ (c .if1 .taken) (s .pre .1 .2)
-
-subtree-returns-2 : (t : ℕ) → subtree-lts.Need-returns-2 (subtree-claims t) (subtree-at t) subtree.Post
-subtree-returns-2 t c = let s = c .before .before .before in short _ (s .args .depth) _ _ _ (c .if2 .taken) (s .pre .1 .2)
-
 subtree-children-requires : (t : ℕ) → subtree-lts.Need-children-requires (subtree-claims t) (subtree-at t) subtree.Post
-subtree-children-requires t c κs = let s = c .before .before .before .before .before .before .before in (omega (arith, s .pre .0, c .before .before .before .before .before .if1 .left), (s .pre .1 .0, s .pre .1 .1, c .before .before .before .before .if2 .left))
-
-subtree-whole-requires : (t : ℕ) → subtree-lts.Need-whole-requires (subtree-claims t) (subtree-at t) subtree.Post
-subtree-whole-requires t c κs = (c .before .before .before .before .before .before .before .before .pre .1 .0, counts-small (c .children .ensures))
+subtree-children-requires t c κs =
+    let s = c .before .before .before .before .before .before .before in
+    (omega (arith, s .pre .0, c .before .before .before .before .before .if1 .left), (s .pre .1 .0, s .pre .1 .1, c .before .before .before .before .if2 .left))
 
 subtree-returns-3 : (t : ℕ) → subtree-lts.Need-returns-3 (subtree-claims t) (subtree-at t) subtree.Post
-subtree-returns-3 t c = let s = c .before .before .before .before .before .before .before .before .before in goes _ (s .args .depth) _ _ _ (omega (arith, c .before .before .before .before .before .before .before .if1 .left)) (c .before .before .before .before .before .before .if2 .left) (c .before .before .before .before .wide .ensures .0) (c .before .before .wide2 .ensures .0) (c .before .children .ensures) (c .whole .ensures)
+subtree-returns-3 t c =
+    let w = c .before .before .before .before in
+    let s = w .before .before .before .before .before in
+    goes _ (s .args .depth) _ _ _ (omega (arith, w .before .before .before .if1 .left)) (w .before .before .if2 .left) (w .wide .ensures .0) (c .before .before .wide2 .ensures .0) (c .before .children .ensures) (c .whole .ensures)
 
 pub +children+subtree-spec : {M : Type 1} → statement M
 +children+subtree-spec =
     close μ-children μ-subtree
-    (λ t. children-lts.spec (children-claims t) (children-at t) children.Post children-Inv-loop
-    children-μ-loop (children-loop-holds t) (children-subtree-requires t)
-    (children-add-cost t) (children-sub-more t) (children-loop-less t)
-    (children-loop-again t) (children-returns t))
-    (λ t. subtree-lts.spec (subtree-claims t) (subtree-at t) subtree.Post (subtree-returns t)
-    (λ c. omega (arith, c .before .before .pre .1 .2)) (subtree-returns-2 t)
+    (λ t. children-lts.spec (children-claims t) (children-at t) children.Post children-Inv-loop children-μ-loop
+    (λ c. begins _ (c .before .pre .1 .2))
+    (λ c κs. let s = c .before .before .before in (omega (arith, s .pre .0), (s .pre .1 .0, s .pre .1 .1, c .before .loop .inv .inside)))
+    (λ c. omega (arith, c .before .before .before .loop .inv .small, counts-small (c .before .subtree .ensures)))
+    (λ c. omega arith) (λ c. omega arith)
+    (λ c. let l = c .before .before .before .loop in turn _ (l .more) (c .before .before .loop-test .taken) (l .inv) (c .before .subtree .ensures))
+    (λ c. finish _ (c .before .loop .more) (omega arith) (c .before .loop .inv)))
+    (λ t. subtree-lts.spec (subtree-claims t) (subtree-at t) subtree.Post
+    (λ c. let s = c .before .before in stops _ (s .args .depth) _ _ _ (c .if1 .taken) (s .pre .1 .2))
+    (λ c. omega (arith, c .before .before .pre .1 .2))
+    (λ c. let s = c .before .before .before in short _ (s .args .depth) _ _ _ (c .if2 .taken) (s .pre .1 .2))
     (λ c. omega arith) (λ c κs. search needs) (λ c. omega arith) (λ c. omega arith)
-    (λ c κs. search needs) (λ c. omega arith) (λ c. omega arith)
-    (subtree-children-requires t) (subtree-whole-requires t) (subtree-returns-3 t))
+    (λ c κs. search needs) (λ c. omega arith) (λ c. omega arith) (subtree-children-requires t)
+    (λ c κs. (c .before .before .before .before .before .before .before .before .pre .1 .0, counts-small (c .children .ensures)))
+    (subtree-returns-3 t))

@@ -16,14 +16,12 @@ abbrev μ-loop : tie.MeasureT-loop
 
 loop-again : tie.Need-loop-again Inv-loop μ-loop
 loop-again c =
-    let l = c .before .before .before .before .before .before .before .loop in
-    let w = c .before .before .wide2 .ensures in
-    let x = c .before .items .ensures in
-    let r = c .larger .ensures in (
-      omega arith,
-      longer-small (l .most) (c .before .before .before .before .wide .result) (c .before .before .wide2 .result) (l .inv .1) (w .1) x r,
-      longest-turn (c .before .before .before .before .before .before .before .before .before .args .entries .now) (l .most) (l .i) (c .before .before .before .before .wide .result) (c .before .before .wide2 .result) (c .before .before .before .before .before .before .loop-test .taken) (c .before .before .before .before .wide .ensures .0) (w .0) x r (l .inv .2),
-    )
+    let s : tie.Start Inv-loop μ-loop = search in
+    let t : tie.In-loop Inv-loop μ-loop = search in
+    let k : tie.After-wide Inv-loop μ-loop = search in
+    let l = t .before .loop in
+    let w = c .before .before .wide2 in
+    (omega arith, longer-small _ (k .wide .result) _ (l .inv .1) (w .ensures .1) (c .before .items .ensures) (c .larger .ensures), longest-turn (s .args .entries .now) (l .most) (l .i) (k .wide .result) (w .result) (t .loop-test .taken) (k .wide .ensures .0) (w .ensures .0) (c .before .items .ensures) (c .larger .ensures) (l .inv .2))
 
 returns : tie.Need-returns Inv-loop μ-loop
 returns c =

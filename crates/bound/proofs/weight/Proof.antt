@@ -3,26 +3,13 @@ use borrow.Author.Tests.{le-leb, lt-leb, eq-eqb, ne-eqb}
 use Rattle.bound.proofs.weight.Statement.{statement}
 use Rattle.bound.proofs.weight.Tie as tie
 
-returns-2 : tie.Need-returns-2
-returns-2 c = rw (lt-leb 19 _ (c .before .before .if1 .left), c .before .if2 .taken) (c .computed .ensures)
-
-returns-3 : tie.Need-returns-3
-returns-3 c = rw (lt-leb 19 _ (c .before .before .before .if1 .left), c .before .before .if2 .left, c .before .if3 .taken) (c .empty .ensures)
-
-returns-4 : tie.Need-returns-4
-returns-4 c = rw (lt-leb 19 _ (c .before .before .before .if1 .left), c .before .before .if2 .left, c .before .if3 .left, eq-eqb _ 3 (c .if4 .taken))
-
-returns-5 : tie.Need-returns-5
-returns-5 c = rw (lt-leb 19 _ (c .before .before .before .before .if1 .left), c .before .before .before .if2 .left, c .before .before .if3 .left, ne-eqb _ 3 (c .before .if4 .left), eq-eqb _ 4 (c .if5 .taken))
-
-returns-6 : tie.Need-returns-6
-returns-6 c = rw (lt-leb 19 _ (c .before .before .before .before .before .if1 .left), c .before .before .before .before .if2 .left, c .before .before .before .if3 .left, ne-eqb _ 3 (c .before .before .if4 .left), ne-eqb _ 4 (c .before .if5 .left), c .if6 .taken)
-
-returns-7 : tie.Need-returns-7
-returns-7 c = rw (lt-leb 19 _ (c .before .before .before .before .before .if1 .left), c .before .before .before .before .if2 .left, c .before .before .before .if3 .left, ne-eqb _ 3 (c .before .before .if4 .left), ne-eqb _ 4 (c .before .if5 .left), c .if6 .left)
-
 pub weight-spec : {M : Type 1} → statement M
 weight-spec =
     tie.close (tie.spec (λ c κs. search needs)
     (λ c. rw (le-leb 19 _ (c .before .if1 .taken)) (c .leaf .ensures)) (λ c κs. search needs)
-    returns-2 (λ c κs. search needs) returns-3 returns-4 returns-5 returns-6 returns-7)
+    (λ c. rw (lt-leb 19 _ (c .before .before .if1 .left), c .before .if2 .taken) (c .computed .ensures)) (λ c κs. search needs)
+    (λ c. rw (lt-leb 19 _ (c .before .before .before .if1 .left), c .before .before .if2 .left, c .before .if3 .taken) (c .empty .ensures))
+    (λ c. rw (lt-leb 19 _ (c .before .before .before .if1 .left), c .before .before .if2 .left, c .before .if3 .left, eq-eqb _ 3 (c .if4 .taken)))
+    (λ c. rw (lt-leb 19 _ (c .before .before .before .before .if1 .left), c .before .before .before .if2 .left, c .before .before .if3 .left, ne-eqb _ 3 (c .before .if4 .left), eq-eqb _ 4 (c .if5 .taken)))
+    (λ c. rw (lt-leb 19 _ (c .before .before .before .before .before .if1 .left), c .before .before .before .before .if2 .left, c .before .before .before .if3 .left, ne-eqb _ 3 (c .before .before .if4 .left), ne-eqb _ 4 (c .before .if5 .left), c .if6 .taken))
+    (λ c. rw (lt-leb 19 _ (c .before .before .before .before .before .if1 .left), c .before .before .before .before .if2 .left, c .before .before .before .if3 .left, ne-eqb _ 3 (c .before .before .if4 .left), ne-eqb _ 4 (c .before .if5 .left), c .if6 .left)))

@@ -7,22 +7,34 @@ use Rattle.calls.proofs.run.Statement.{statement}
 use Rattle.calls.proofs.run.Tie as tie
 
 returns : tie.Need-returns
-returns c = let s = c .before .before .before .before in run-short-program (s .args .program .now) (s .args .state .now) (s .args .steps) (s .args .report .now) (c .if1 .taken)
+returns c =
+    let s : tie.Start = search in
+    run-short-program (s .args .program .now) (s .args .state .now) (s .args .steps) (s .args .report .now) (c .if1 .taken)
 
 returns-2 : tie.Need-returns-2
-returns-2 c = let s = c .before .before .before .before .before in run-short-state (s .args .program .now) (s .args .state .now) (s .args .steps) (s .args .report .now) (c .before .if1 .left) (c .if2 .taken)
+returns-2 c =
+    let s : tie.Start = search in
+    run-short-state (s .args .program .now) (s .args .state .now) (s .args .steps) (s .args .report .now) (c .before .if1 .left) (c .if2 .taken)
 
 returns-3 : tie.Need-returns-3
-returns-3 c = let s = c .before .before .before .before .before .before in run-short-report (s .args .program .now) (s .args .state .now) (s .args .steps) (s .args .report .now) (c .before .before .if1 .left) (c .before .if2 .left) (c .if3 .taken)
+returns-3 c =
+    let s : tie.Start = search in
+    run-short-report (s .args .program .now) (s .args .state .now) (s .args .steps) (s .args .report .now) (c .before .before .if1 .left) (c .before .if2 .left) (c .if3 .taken)
 
 returns-4 : tie.Need-returns-4
-returns-4 c = let s = c .before .before .before .before .before .before .before .before in run-unprogrammed (s .args .program .now) (s .args .state .now) (s .args .steps) (s .args .report .now) (c .before .before .before .before .if1 .left) (c .before .before .before .if2 .left) (c .before .before .if3 .left) (sym (c .before .program-ok .ensures) ∙ not-true (c .before .program-ok .result) (c .if4 .taken))
+returns-4 c =
+    let s : tie.Start = search in
+    run-unprogrammed (s .args .program .now) (s .args .state .now) (s .args .steps) (s .args .report .now) (c .before .before .before .before .if1 .left) (c .before .before .before .if2 .left) (c .before .before .if3 .left) (sym (c .before .program-ok .ensures) ∙ not-true (c .before .program-ok .result) (c .if4 .taken))
 
 run-on-requires : tie.Need-run-on-requires
-run-on-requires c κs = (c .before .before .before .before .before .before .if1 .left, omega (arith, c .before .before .before .before .before .if2 .left), omega (arith, c .before .before .before .before .if3 .left), sym (c .before .before .before .program-ok .ensures) ∙ not-false (c .before .before .before .program-ok .result) (c .before .before .if4 .left))
+run-on-requires c κs =
+    let else2 : tie.Else2 = search in let else1 : tie.Else1 = search in
+    (else1 .if1 .left, omega (arith, else2 .if2 .left), omega (arith, c .before .before .before .before .if3 .left), sym (c .before .before .before .program-ok .ensures) ∙ not-false (c .before .before .before .program-ok .result) (c .before .before .if4 .left))
 
 returns-5 : tie.Need-returns-5
-returns-5 c = let s = c .before .before .before .before .before .before .before .before .before .before .before .before .before .before .before in run-passed (s .args .program .now) (s .args .state .now) (s .args .steps) (s .args .report .now) (c .before .before .before .before .before .before .before .before .before .before .before .if1 .left) (c .before .before .before .before .before .before .before .before .before .before .if2 .left) (c .before .before .before .before .before .before .before .before .before .if3 .left) ∙ c .before .before .before .before .run-on .ensures
+returns-5 c =
+    let else3 : tie.Else3 = search in let else2 : tie.Else2 = search in let else1 : tie.Else1 = search in let s : tie.Start = search in
+    run-passed (s .args .program .now) (s .args .state .now) (s .args .steps) (s .args .report .now) (else1 .if1 .left) (else2 .if2 .left) (else3 .if3 .left) ∙ c .before .before .before .before .run-on .ensures
 
 pub run-spec : {M : Type 1} → statement M
 run-spec =

@@ -32,9 +32,10 @@ use Rattle.compiler.specs.Lower.{elseLabels, stmtLabels, stmtsLabels, re
 use Rattle.compiler.specs.Lower.{orNop, lowerArm, lowerSource, sourceName, inner, lowerFor, lowerPops, declaring, lowerStmt, lowerStmts, lowerRest}
 use Rattle.compiler.specs.Within.{LitIn, ExprIn, RhsIn, ExprsIn, ItemsIn, SourceIn, StmtIn, StmtsIn, RestIn}
 use Rattle.opc.specs.laws.RecordRange.{Any}
-use Rattle.sifv.specs.Limits.{SingleFits, Stored}
+use Rattle.sifv.specs.Limits.{SingleFits}
 use Rattle.opc.specs.Limits.{paramsOk, opOk, instrOk, OpFits}
 use Rattle.numeric.specs.Whole.{whole}
+use Rattle.sifv.specs.laws.SlotLaws.{Stored}
 
 -- ---- what events take and hold
 

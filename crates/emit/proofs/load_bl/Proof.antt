@@ -8,7 +8,9 @@ load-at-requires : tie.Need-load-at-requires
 load-at-requires c κs = ready-start (c .before .before .start .ensures) (c .before .before .before .before .pre)
 
 returns : tie.Need-returns
-returns c b v w e = loaded w _ _ (c .before .before .before .before .before .start .ensures) (c .before .before .load-at .ensures) refl (bl-bytes b v (c .before .before .before .before .fields-of .ensures)) e
+returns c b v w e =
+    let at-start : tie.After-start = search in
+    loaded w _ _ (at-start .start .ensures) (c .before .before .load-at .ensures) refl (bl-bytes b v (c .before .before .before .before .fields-of .ensures)) e
 
 pub load-bl-spec : {M : Type 1} → statement M
 load-bl-spec =

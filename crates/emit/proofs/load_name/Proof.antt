@@ -5,10 +5,14 @@ use Rattle.emit.proofs.load_name.Statement.{statement}
 use Rattle.emit.proofs.load_name.Tie as tie
 
 load-at-requires : tie.Need-load-at-requires
-load-at-requires c κs = ready-start (c .before .before .start .ensures) (c .before .before .before .before .before .before .pre .0)
+load-at-requires c κs =
+    let s : tie.Start = search in
+    ready-start (c .before .before .start .ensures) (s .pre .0)
 
 returns : tie.Need-returns
-returns c x v w e = loaded w _ _ (c .before .before .before .before .before .start .ensures) (c .before .before .load-at .ensures) refl (name-bytes v (c .before .before .before .before .fields-of .ensures)) e
+returns c x v w e =
+    let at-start : tie.After-start = search in
+    loaded w _ _ (at-start .start .ensures) (c .before .before .load-at .ensures) refl (name-bytes v (c .before .before .before .before .fields-of .ensures)) e
 
 pub load-name-spec : {M : Type 1} → statement M
 load-name-spec =

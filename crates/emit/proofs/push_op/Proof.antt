@@ -9,10 +9,14 @@ returns-2 : tie.Need-returns-2
 returns-2 c w i n b e = push-full w i _ _ (c .before .before .before .if1 .left) e n (sym (c .before .before .is-full .ensures) ∙ c .before .if2 .taken) (c .refused .ensures)
 
 keep-record-requires : tie.Need-keep-record-requires
-keep-record-requires c κs k = let a = c .before .before .before .before .before .before .args in omega (arith, roomy (a .keep) (a .low) 0 (sym (c .before .before .is-full .ensures) ∙ c .before .if2 .left) .1 k .0, c .before .before .before .before .before .before .pre .room)
+keep-record-requires c κs k =
+    let s : tie.Start = search in
+    let a = s .args in omega (arith, roomy (a .keep) (a .low) 0 (sym (c .before .before .is-full .ensures) ∙ c .before .if2 .left) .1 k .0, s .pre .room)
 
 returns-3 : tie.Need-returns-3
-returns-3 c w i n b e = push-put w i _ _ (c .before .before .before .before .before .before .before .if1 .left) e n (sym (c .before .before .before .before .before .before .is-full .ensures) ∙ c .before .before .before .before .before .if2 .left) (c .count .ensures) (rw (← b) (c .before .before .before .keep-record .ensures))
+returns-3 c w i n b e =
+    let else2 : tie.Else2 = search in let at-is-full : tie.After-is-full = search in let else1 : tie.Else1 = search in
+    push-put w i _ _ (else1 .if1 .left) e n (sym (at-is-full .is-full .ensures) ∙ else2 .if2 .left) (c .count .ensures) (rw (← b) (c .before .before .before .keep-record .ensures))
 
 pub push-op-spec : {M : Type 1} → statement M
 push-op-spec =

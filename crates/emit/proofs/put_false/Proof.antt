@@ -8,7 +8,9 @@ push-at-requires : tie.Need-push-at-requires
 push-at-requires c κs = ready-start (c .before .before .start .ensures) (c .before .before .before .before .pre)
 
 returns : tie.Need-returns
-returns c w e = stored w _ _ (c .before .before .before .before .before .start .ensures) (c .before .before .push-at .ensures) refl (false-stored (c .before .before .before .before .fields-of .ensures)) e
+returns c w e =
+    let at-start : tie.After-start = search in
+    stored w _ _ (at-start .start .ensures) (c .before .before .push-at .ensures) refl (false-stored (c .before .before .before .before .fields-of .ensures)) e
 
 pub put-false-spec : {M : Type 1} → statement M
 put-false-spec =

@@ -7,10 +7,22 @@ use Rattle.ending.proofs.put_name.Statement.{statement}
 use Rattle.ending.proofs.put_name.Tie as tie
 
 returns : tie.Need-returns
-returns c = let s = c .before .before .before .before .before in name-absent (s .pre .0) (s .args .x) (decodeSlot (part (s .args .state .now) (24576 + s .args .x * 256) 256)) (c .before .before .get .ensures) (c .before .kind-of .ensures .0) (c .if1 .taken)
+returns c =
+    let s : tie.Start = search in
+    name-absent (s .pre .0) (s .args .x) (decodeSlot (part (s .args .state .now) (24576 + s .args .x * 256) 256)) (c .before .before .get .ensures) (c .before .kind-of .ensures .0) (c .if1 .taken)
 
 returns-2 : tie.Need-returns-2
-returns-2 c = let s = c .before .before .before .before .before .before .before .before .before .before .before .before .before .before .before .before .before .before .before .before .before .before .before .before .before .before .before .before in name-put (s .pre .0) (s .args .x) (decodeSlot (part (s .args .state .now) (24576 + s .args .x * 256) 256)) (c .before .before .before .before .before .before .before .before .before .before .before .before .before .before .before .before .before .before .before .before .before .before .before .before .before .get .ensures) (c .before .before .before .before .before .before .before .before .before .before .before .before .before .before .before .before .before .before .before .before .before .before .before .before .kind-of .ensures .0) (c .before .before .before .before .before .before .before .before .before .before .before .before .before .before .before .before .before .before .before .before .before .before .before .if1 .left) (c .before .before .before .before .before .before .before .before .before .before .before .before .before .before .before .before .before .before .before .before .put-all .ensures) (c .before .before .before .before .before .before .before .before .before .before .before .before .before .before .before .before .put-field .ensures) (c .before .before .before .before .before .before .before .before .before .before .before .put-all2 .ensures) (c .before .before .before .before .before .before .before .put-value .ensures) (c .before .before .put-all3 .ensures)
+returns-2 c =
+    let p4 : tie.After-put-value = search in
+    let p3 : tie.After-put-all2 = search in
+    let p2 : tie.After-put-field = search in
+    let p1 : tie.After-put-all = search in
+    let e : tie.Else1 = search in
+    let k : tie.After-kind-of = search in
+    let g : tie.After-get = search in
+    let s : tie.Start = search in
+    name-put (s .pre .0) (s .args .x) (decodeSlot (part (s .args .state .now) (24576 + s .args .x * 256) 256)) (g .get .ensures) (k .kind-of .ensures .0) (e .if1 .left)
+    (p1 .put-all .ensures) (p2 .put-field .ensures) (p3 .put-all2 .ensures) (p4 .put-value .ensures) (c .before .before .put-all3 .ensures)
 
 pub put-name-spec : {M : Type 1} → statement M
 put-name-spec =

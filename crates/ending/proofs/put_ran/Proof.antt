@@ -1,6 +1,5 @@
-use mathlib.Core.Path.{subst}
-use Prim.Native.Nat.{ℕ}
-use Rattle.text.specs.Put.{Put}
+use mathlib.Core.Path.{sym, ap}
+use Rattle.text.specs.laws.PutLaws.{put-as}
 use Rattle.text.specs.laws.Joined.{put-three}
 use Rattle.ending.specs.inner.EndBytes.{endIn, ranIn}
 use borrow.Author.Needs.{needs}
@@ -9,7 +8,12 @@ use Rattle.ending.proofs.put_ran.Tie as tie
 
 returns : tie.Need-returns
 unfolding ranIn
-returns c = let h = c .before .before .before .before .before .before .before .before .before .before .before .before .before .before .before .before .pre .0 in put-three h (subst (λ (k : ℕ). Put (c .before .before .before .before .before .before .before .before .before .before .before .before .before .before .before .before .args .out .now) (c .before .before .before .before .before .before .before .before .before .before .before .before .before .before .before .before .args .at) (endIn (c .before .before .before .before .before .before .before .before .before .before .before .before .before .before .before .before .args .report .now) k) (c .before .before .before .before .before .before .before .before .before .before .put-end .last .0) (c .before .before .before .before .before .before .before .before .before .before .put-end .result)) (c .before .before .before .before .before .before .before .before .before .before .before .get-u64 .ensures) (c .before .before .before .before .before .before .before .before .before .before .put-end .ensures)) (c .before .before .before .before .before .before .put-held .ensures) (c .before .before .put-names .ensures)
+returns c =
+    let q : tie.After-put-held = search in
+    let p : tie.After-put-end = search in
+    let g : tie.After-get-u64 = search in
+    let s : tie.Start = search in
+    put-three (s .pre .0) (put-as (ap (endIn (s .args .report .now)) (sym (g .get-u64 .ensures))) (p .put-end .ensures)) (q .put-held .ensures) (c .before .before .put-names .ensures)
 
 pub put-ran-spec : {M : Type 1} → statement M
 put-ran-spec =

@@ -1,15 +1,12 @@
 -- Laws of writing the end line and the names.
-use mathlib.Core.Path.{_≡_, refl, sym, ap, ap₂, _∙_, subst}
+use mathlib.Core.Path.{_≡_, refl, sym, ap, _∙_}
 use mathlib.Core.Bool.{Bool, true, false, cond}
-use mathlib.Core.List.{List, [], _∷_, _++_, map, append-nil}
+use mathlib.Core.List.{List, [], _∷_, _++_, map}
 use mathlib.Core.Option.{Option, none, some}
-use Prim.Native.Nat.{ℕ, _+_, _*_, _-_, _^_, _≤_, _<_}
+use Prim.Native.Nat.{ℕ, _+_, _*_, _-_, _≤_, _<_}
 use native.Mathlib.Omega.{arith}
-use native.Mathlib.Numerals.{add-one}
 use lib.Dec.{eqb}
-use lib.IntN.{ℤ, pos, negsuc}
 use lib.ListN.{length, getD, take}
-use borrow.Author.Tests.{lt-ltb, le-ltb, eq-eqb, ne-eqb}
 use Rattle.lent.specs.Bytes.{beValue, part}
 use Rattle.sifv.specs.Value.{Value, One}
 use Rattle.sifv.specs.Value as model
@@ -18,21 +15,13 @@ use Rattle.sifv.specs.inner.Seen.{seen, kindIn}
 use Rattle.sifv.specs.declared.SifVal.{SifVal}
 use Rattle.vm.specs.StateBytes.{slotsAt}
 use Rattle.vm.specs.laws.StateLaws.{slot-at}
-use Rattle.text.specs.Text.{ascii, decimal, numberFields, words, lineOf}
+use Rattle.text.specs.Text.{ascii, decimal, numberFields, lineOf}
 use Rattle.text.specs.Put.{Put}
 use Rattle.text.specs.laws.PutLaws.{put-none, put-then, put-within}
-use Rattle.text.specs.laws.Joined.{put-three, put-field, put-fields, put-end, put-turn}
+use Rattle.text.specs.laws.Joined.{put-field, put-fields, put-end, put-turn}
 use Rattle.values.specs.inner.SlotText.{slotText}
 use Rattle.ending.specs.Ending.{signed, nameLine, nameLines}
-use Rattle.ending.specs.inner.EndBytes.{signedOf, detailCount, stopIn, endIn}
-
--- ---- a signed number
-
-positive : (w : ℕ) → w < 2 ^ 63 → pos w ≡ signedOf w
-positive w h = sym (ap (λ (t : Bool). cond t (pos w) (negsuc (2 ^ 64 - 1 - w))) (lt-ltb w (2 ^ 63) h))
-
-negative : (w : ℕ) → 2 ^ 63 ≤ w → negsuc (2 ^ 64 - 1 - w) ≡ signedOf w
-negative w h = sym (ap (λ (t : Bool). cond t (pos w) (negsuc (2 ^ 64 - 1 - w))) (le-ltb w (2 ^ 63) h))
+use Rattle.ending.specs.inner.EndBytes.{signedOf, detailCount, stopIn}
 
 -- ---- 0, 1 or 3 details
 
@@ -44,7 +33,7 @@ no-third false false false true e h g = absurd (g refl)
 no-third false false false false true h g = absurd (g refl)
 no-third false false false false false h g = absurd (h refl)
 
-three-details : (k : ℕ) {n : ℕ} → n ≡ detailCount k → (n ≡ 0 → ⊥) → (n ≡ 1 → ⊥) → detailCount k ≡ 3
+pub three-details : (k : ℕ) {n : ℕ} → n ≡ detailCount k → (n ≡ 0 → ⊥) → (n ≡ 1 → ⊥) → detailCount k ≡ 3
 three-details k e h g = no-third (eqb k 31) (eqb k 20) (eqb k 26) (eqb k 28) (eqb k 29) (λ z. h (e ∙ z)) (λ z. g (e ∙ z))
 
 -- ---- a name
@@ -65,82 +54,37 @@ name-some x (some v) h = refl
 -- ---- written
 
 module _ {out : List ℕ} {at : ℕ} (h : at ≤ length out) where
-  pub positive-put : (w : ℕ) {out' : List ℕ} {r : ℕ} → w < 2 ^ 63 → Put out at (ascii " " ++ decimal w) out' r → Put out at (ascii " " ++ signed (signedOf w)) out' r
-  positive-put w {out'} {r} g p = subst (λ (z : ℤ). Put out at (ascii " " ++ signed z) out' r) (positive w g) p
-
-  pub negative-put : (w : ℕ) {n : ℕ} {out₁ : List ℕ} {r₁ : ℕ} {out' : List ℕ} {r : ℕ} → 2 ^ 63 ≤ w → w < 2 ^ 64 → n ≡ 2 ^ 64 - 1 - w + 1 → Put out at (ascii " -") out₁ r₁ → Put out₁ r₁ (decimal n) out' r
-      → Put out at (ascii " " ++ signed (signedOf w)) out' r
-  negative-put w {out' = out'} {r = r} g l e p q =
-      subst (λ (z : ℤ). Put out at (ascii " " ++ signed z) out' r) (negative w g)
-      (subst (λ (k : ℕ). Put out at (ascii " -" ++ decimal k) out' r) (e ∙ add-one (2 ^ 64 - 1 - w)) (put-then h p q))
-
-  module _ (k x y z : ℕ) {n : ℕ} (e : n ≡ detailCount k) where
-    pub details-none : n ≡ 0 → Put out at (numberFields (take (detailCount k) (x ∷ (y ∷ (z ∷ []))))) out at
-    details-none f = subst (λ (j : ℕ). Put out at (numberFields (take j (x ∷ (y ∷ (z ∷ []))))) out at) (sym f ∙ e) (put-none out at h)
-
-    module _ {a : ℕ} {out₁ : List ℕ} {r₁ : ℕ} (p : Put out at (ascii " " ++ decimal a) out₁ r₁) (i : a ≡ x) where
-      pub details-one : n ≡ 1 → Put out at (numberFields (take (detailCount k) (x ∷ (y ∷ (z ∷ []))))) out₁ r₁
-      details-one f =
-          subst (λ (j : ℕ). Put out at (numberFields (take j (x ∷ (y ∷ (z ∷ []))))) out₁ r₁) (sym f ∙ e)
-          (subst (λ (t : List ℕ). Put out at (ascii " " ++ t) out₁ r₁) (ap decimal i ∙ sym (append-nil (decimal x))) p)
-
-      pub details-three : {b d : ℕ} {out₂ : List ℕ} {r₂ : ℕ} {out₃ : List ℕ} {r₃ : ℕ} → (n ≡ 0 → ⊥) → (n ≡ 1 → ⊥) → Put out₁ r₁ (ascii " " ++ decimal b) out₂ r₂ → b ≡ y
-          → Put out₂ r₂ (ascii " " ++ decimal d) out₃ r₃ → d ≡ z → Put out at (numberFields (take (detailCount k) (x ∷ (y ∷ (z ∷ []))))) out₃ r₃
-      details-three {b} {d} {out₃ = out₃} {r₃ = r₃} f g q j r m =
-          let t : (ascii " " ++ decimal a) ++ ((ascii " " ++ decimal b) ++ (ascii " " ++ decimal d)) ≡ numberFields (x ∷ (y ∷ (z ∷ []))) =
-          ap₂ (λ (u v : List ℕ). (ascii " " ++ u) ++ v) (ap decimal i) (ap₂ (λ (u v : List ℕ). (ascii " " ++ u) ++ (ascii " " ++ v)) (ap decimal j) (ap decimal m ∙ sym (append-nil (decimal z)))) in
-          subst (λ (l : ℕ). Put out at (numberFields (take l (x ∷ (y ∷ (z ∷ []))))) out₃ r₃) (sym (three-details k e f g))
-          (subst (λ (u : List ℕ). Put out at u out₃ r₃) t (put-three h p q r))
-
   pub stop-put : (b : List ℕ) (k : ℕ) {n w : ℕ} {out₁ : List ℕ} {r₁ : ℕ} {out₂ : List ℕ} {r₂ : ℕ} {out₃ : List ℕ} {r₃ : ℕ} {out₄ : List ℕ} {r₄ : ℕ} {out₅ : List ℕ} {r₅ : ℕ} {out₆ : List ℕ} {r₆ : ℕ}
       → n ≡ getD b 1 0 → w ≡ beValue (part b 8 8) → Put out at (ascii "end stopped") out₁ r₁ → Put out₁ r₁ (ascii " " ++ decimal k) out₂ r₂ → Put out₂ r₂ (ascii " " ++ decimal n) out₃ r₃
       → Put out₃ r₃ (ascii " " ++ signed (signedOf w)) out₄ r₄
       → Put out₄ r₄ (numberFields (take (detailCount n) (beValue (part b 16 8) ∷ (beValue (part b 24 8) ∷ (beValue (part b 32 8) ∷ []))))) out₅ r₅ → Put out₅ r₅ (ascii "\n") out₆ r₆
       → Put out at (stopIn b k) out₆ r₆
-  stop-put b k {n} {w} {out₆ = out₆} {r₆ = r₆} e f p1 p2 p3 p4 p5 p6 =
+  stop-put b k {n} {w} e f p1 p2 p3 p4 p5 p6 =
       let ds = beValue (part b 16 8) ∷ (beValue (part b 24 8) ∷ (beValue (part b 32 8) ∷ [])) in
       let s = ascii "stopped" in
       let q2 = put-field h (ascii "end") (s ∷ []) p1 p2 in
       let q3 = put-field h (ascii "end") (s ∷ (decimal k ∷ [])) q2 p3 in
       let q4 = put-field h (ascii "end") (s ∷ (decimal k ∷ (decimal n ∷ []))) q3 p4 in
       let q5 = put-fields h (ascii "end") (s ∷ (decimal k ∷ (decimal n ∷ (signed (signedOf w) ∷ [])))) (take (detailCount n) ds) q4 p5 in
-      subst (λ (t : List ℕ). Put out at t out₆ r₆)
-      (ap₂ (λ (i j : ℕ). lineOf (ascii "end" ∷ (s ∷ (decimal k ∷ (decimal i ∷ (signed (signedOf j) ∷ map decimal (take (detailCount i) ds))))))) e f)
-      (put-end h (ascii "end" ∷ (s ∷ (decimal k ∷ (decimal n ∷ (signed (signedOf w) ∷ map decimal (take (detailCount n) ds)))))) q5 p6)
+      rw (← e, ← f) (put-end h (ascii "end" ∷ (s ∷ (decimal k ∷ (decimal n ∷ (signed (signedOf w) ∷ map decimal (take (detailCount n) ds)))))) q5 p6)
 
   -- what the slot of a name shows, v, and its kind
   module _ (x : ℕ) (o : Option Value) {v : SifVal} {k : ℕ} (e : v ≡ seen o) (f : k ≡ kindIn v) where
     pub name-absent : k ≡ 0 → Put out at (nameLine x o) out at
-    name-absent g = subst (λ (t : List ℕ). Put out at t out at) (name-none x o (sym (f ∙ ap kindIn e) ∙ g)) (put-none out at h)
+    name-absent g = rw (← name-none x o (sym (f ∙ ap kindIn e) ∙ g)) (put-none out at h)
 
     pub name-put : {out₁ : List ℕ} {r₁ : ℕ} {out₂ : List ℕ} {r₂ : ℕ} {out₃ : List ℕ} {r₃ : ℕ} {out₄ : List ℕ} {r₄ : ℕ} {out₅ : List ℕ} {r₅ : ℕ} → (k ≡ 0 → ⊥)
         → Put out at (ascii "name") out₁ r₁ → Put out₁ r₁ (ascii " " ++ decimal x) out₂ r₂ → Put out₂ r₂ (ascii " ") out₃ r₃ → Put out₃ r₃ (slotText o) out₄ r₄
         → Put out₄ r₄ (ascii "\n") out₅ r₅ → Put out at (nameLine x o) out₅ r₅
-    name-put {out₅ = out₅} {r₅ = r₅} g p1 p2 p3 p4 p5 =
+    name-put g p1 p2 p3 p4 p5 =
         let q2 = put-field h (ascii "name") [] p1 p2 in
         let q4 = put-field h (ascii "name") (decimal x ∷ []) q2 (put-then (put-within h q2) p3 p4) in
-        subst (λ (t : List ℕ). Put out at t out₅ r₅) (name-some x o (λ z. g (f ∙ ap kindIn e ∙ z)))
-        (put-end h (ascii "name" ∷ (decimal x ∷ (slotText o ∷ []))) q4 p5)
+        rw (← name-some x o (λ z. g (f ∙ ap kindIn e ∙ z))) (put-end h (ascii "name" ∷ (decimal x ∷ (slotText o ∷ []))) q4 p5)
 
   -- one name more
   pub names-turn : (b : List ℕ) (x : ℕ) {out₁ : List ℕ} {r₁ : ℕ} {out₂ : List ℕ} {r₂ : ℕ} → x < 64 → Put out at (nameLines 0 x (slotsAt b 24576 64)) out₁ r₁
       → Put out₁ r₁ (nameLine x (decodeSlot (part b (24576 + x * 256) 256))) out₂ r₂ → Put out at (nameLines 0 (x + 1) (slotsAt b 24576 64)) out₂ r₂
-  names-turn b x {out₁} {r₁} {out₂} {r₂} l p q =
+  names-turn b x l p q =
       let f = slotsAt b 24576 64 in
       put-turn h (λ (i : ℕ). nameLine i (f i)) (λ (i n : ℕ). nameLines i n f) (λ i. refl) (λ i n. refl) x p
-      (subst (λ (o : Option Value). Put out₁ r₁ (nameLine x o) out₂ r₂) (sym (slot-at b 24576 64 x l)) q)
-
--- the end line by the answer n
-module _ (b : List ℕ) (k : ℕ) {n : ℕ} (e : n ≡ getD b 0 0) {out : List ℕ} {at : ℕ} {out' : List ℕ} {r : ℕ} where
-  by-answer : Put out at (cond (eqb n 0) (lineOf (ascii "end" ∷ words "done" (k ∷ []))) (cond (eqb n 1) (stopIn b k) (lineOf (ascii "end" ∷ words "spent" (k ∷ []))))) out' r → Put out at (endIn b k) out' r
-  by-answer p =
-      subst (λ (m : ℕ). Put out at (cond (eqb m 0) (lineOf (ascii "end" ∷ words "done" (k ∷ []))) (cond (eqb m 1) (stopIn b k) (lineOf (ascii "end" ∷ words "spent" (k ∷ []))))) out' r) e p
-
-  pub end-done : n ≡ 0 → Put out at (lineOf (ascii "end" ∷ words "done" (k ∷ []))) out' r → Put out at (endIn b k) out' r
-  end-done f p = by-answer (rw (eq-eqb n 0 f) p)
-
-  pub end-stop : n ≡ 1 → Put out at (stopIn b k) out' r → Put out at (endIn b k) out' r
-  end-stop f p = by-answer (rw (ne-eqb n 0 (λ z. omega arith), eq-eqb n 1 f) p)
-
-  pub end-spent : (n ≡ 0 → ⊥) → (n ≡ 1 → ⊥) → Put out at (lineOf (ascii "end" ∷ words "spent" (k ∷ []))) out' r → Put out at (endIn b k) out' r
-  end-spent f g p = by-answer (rw (ne-eqb n 0 f, ne-eqb n 1 g) p)
+      (rw (slot-at b 24576 64 x l) q)

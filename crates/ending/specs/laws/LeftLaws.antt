@@ -41,11 +41,11 @@ Small (pos n) = n < 2 ^ 63
 Small (negsuc n) = n < 2 ^ 63
 
 signed-back : (l : ℤ) → Small l → signedOf (beValue (signedBytes l)) ≡ l
-signed-back (pos n) h = ap signedOf (beValue-beBytes 8 n (omega arith)) ∙ ap (λ (t : Bool). cond t (pos n) (negsuc (2 ^ 64 - 1 - n))) (lt-ltb n (2 ^ 63) h)
+signed-back (pos n) h = rw (beValue-beBytes 8 n (omega arith), lt-ltb n (2 ^ 63) h)
 signed-back (negsuc n) h =
     let w = 2 ^ 64 - suc n in
     let e : 2 ^ 64 - 1 - w ≡ n = omega arith in
-    ap signedOf (beValue-beBytes 8 w (omega arith)) ∙ ap (λ (t : Bool). cond t (pos w) (negsuc (2 ^ 64 - 1 - w))) (le-ltb w (2 ^ 63) (omega arith)) ∙ ap negsuc e
+    rw (beValue-beBytes 8 w (omega arith), le-ltb w (2 ^ 63) (omega arith), e)
 
 line-small : (p : Program) (m : Machine) → p .codeStart ≤ 1024 → m .pos ≤ 1024 → Small (line p m)
 line-small p m h g = by (leb (p .codeStart) (suc (m .pos)))

@@ -14,20 +14,24 @@ abbrev μ-loop : tie.MeasureT-loop
 μ-loop program state₀ calls n last₀ i₀ state last i = n - i
 
 loop-holds : tie.Need-loop-holds Inv-loop μ-loop
-loop-holds c = let s = c .before .before .before in (refl, going-start (s .args .program .now) (s .args .calls .now) (s .args .state .now) _ _ refl)
+loop-holds c =
+    let s : tie.Start Inv-loop μ-loop = search in
+    (refl, going-start (s .args .program .now) (s .args .calls .now) (s .args .state .now) _ _ refl)
 
 mul-call-next : tie.Need-mul-call-next Inv-loop μ-loop
-mul-call-next c = record { fits = omega (arith, c .before .before .before .before .before .before .good, c .before .loop-test .taken) }
+mul-call-next c =
+    let s : tie.Start Inv-loop μ-loop = search in
+    record { fits = omega (arith, s .good, c .before .loop-test .taken) }
 
 loop-again : tie.Need-loop-again Inv-loop μ-loop
 loop-again c =
-    let s = c .before .before .before .before .before .before .before .before .before in
-    let l = c .before .before .before .before .before .loop in
+    let at-loop : tie.At-loop Inv-loop μ-loop = search in let s : tie.Start Inv-loop μ-loop = search in
+    let l = at-loop .loop in
     (c .before .before .call-next .kept .1 .0 ∙ l .inv .0, going-next (s .args .program .now) (s .args .calls .now) (s .args .state .now) (length (s .args .calls .now) / 16) (l .i) (l .state) (l .last) (l .inv .1) (c .before .before .before .before .loop-test .taken) (c .before .before .call-next .ensures))
 
 returns : tie.Need-returns Inv-loop μ-loop
 returns c =
-    let s = c .before .before .before .before .before in
+    let s : tie.Start Inv-loop μ-loop = search in
     let l = c .before .loop in
     going-end (s .args .program .now) (s .args .calls .now) (s .args .state .now) (length (s .args .calls .now) / 16) (l .i) (l .state) (l .last) refl (l .inv .1) (c .loop-test .left)
 

@@ -5,19 +5,25 @@ use Rattle.engine.proofs.run_next.Statement.{statement}
 use Rattle.engine.proofs.run_next.Tie as tie
 
 returns : tie.Need-returns
-returns c = let s = c .before .before .before .before .before .before .before .before .before .before .before in run-refused (s .args .program .now) (s .args .state .now) (s .args .steps) (s .args .out .now) (s .args .last) (c .before .before .before .before .before .run .ensures) (c .if1 .taken)
+returns c =
+    let at-run : tie.After-run = search in let s : tie.Start = search in
+    run-refused (s .args .program .now) (s .args .state .now) (s .args .steps) (s .args .out .now) (s .args .last) (at-run .run .ensures) (c .if1 .taken)
 
 returns-2 : tie.Need-returns-2
-returns-2 c = let s = c .before .before .before .before .before .before .before .before .before .before .before .before in run-none (s .args .program .now) (s .args .state .now) (s .args .steps) (s .args .out .now) (s .args .last) (c .before .before .before .before .before .before .run .ensures) (c .before .if1 .left) (c .if2 .taken)
+returns-2 c =
+    let at-run : tie.After-run = search in let s : tie.Start = search in
+    run-none (s .args .program .now) (s .args .state .now) (s .args .steps) (s .args .out .now) (s .args .last) (at-run .run .ensures) (c .before .if1 .left) (c .if2 .taken)
 
 told-requires : tie.Need-told-requires
 told-requires c κs =
-    let s = c .before .before .before .before .before .before .before .before .before .before .before .before .before in
-    let h = run-reported (s .args .program .now) (s .args .state .now) (s .args .steps) (s .args .out .now) (c .before .before .before .before .before .before .before .run .ensures) (c .before .before .if1 .left) in
-    omega (arith, h, c .before .before .before .before .before .before .before .run .kept .1 .1 .1 .0)
+    let at-run : tie.After-run = search in let s : tie.Start = search in
+    let h = run-reported (s .args .program .now) (s .args .state .now) (s .args .steps) (s .args .out .now) (at-run .run .ensures) (c .before .before .if1 .left) in
+    omega (arith, h, at-run .run .kept .1 .1 .1 .0)
 
 returns-3 : tie.Need-returns-3
-returns-3 c = let s = c .before .before .before .before .before .before .before .before .before .before .before .before .before .before in run-some (s .args .program .now) (s .args .state .now) (s .args .steps) (s .args .out .now) (s .args .last) (c .before .before .before .before .before .before .before .before .run .ensures) (c .before .before .before .if1 .left) (c .before .before .if2 .left) (c .told .ensures)
+returns-3 c =
+    let at-run : tie.After-run = search in let s : tie.Start = search in
+    run-some (s .args .program .now) (s .args .state .now) (s .args .steps) (s .args .out .now) (s .args .last) (at-run .run .ensures) (c .before .before .before .if1 .left) (c .before .before .if2 .left) (c .told .ensures)
 
 pub run-next-spec : {M : Type 1} → statement M
 run-next-spec =

@@ -7,13 +7,19 @@ use Rattle.execute.proofs.call.Statement.{statement}
 use Rattle.execute.proofs.call.Tie as tie
 
 returns : tie.Need-returns
-returns c = let s = c .before .before .before .before .before in called-none (s .args .state .now) (s .args .loc) (s .pre .0) (s .args .name) (s .pre .3) (c .before .before .get-u16 .ensures .0) (c .before .if1 .taken) (ap step.Stops (c .invalid-fn-sym .ensures)) refl
+returns c =
+    let s : tie.Start = search in
+    called-none (s .args .state .now) (s .args .loc) (s .pre .0) (s .args .name) (s .pre .3) (c .before .before .get-u16 .ensures .0) (c .before .if1 .taken) (ap step.Stops (c .invalid-fn-sym .ensures)) refl
 
 returns-2 : tie.Need-returns-2
-returns-2 c = let s = c .before .before .before .before .before .before in called-full (s .args .state .now) (s .args .loc) (s .pre .0) (s .args .name) (s .pre .3) (c .before .before .before .get-u16 .ensures .0) (c .before .before .if1 .left) (c .before .if2 .taken) (ap step.Stops (c .stack-full .ensures)) refl
+returns-2 c =
+    let s : tie.Start = search in
+    called-full (s .args .state .now) (s .args .loc) (s .pre .0) (s .args .name) (s .pre .3) (c .before .before .before .get-u16 .ensures .0) (c .before .before .if1 .left) (c .before .if2 .taken) (ap step.Stops (c .stack-full .ensures)) refl
 
 returns-3 : tie.Need-returns-3
-returns-3 c = let s = c .before .before .before .before .before .before .before .before .before in called-on (s .args .state .now) (s .args .loc) (s .pre .0) (s .args .name) (s .pre .3) (c .before .before .before .before .before .before .get-u16 .ensures .0) (c .before .before .before .before .before .if1 .left) (c .before .before .before .before .if2 .left) refl (c .before .before .put-u16 .ensures)
+returns-3 c =
+    let else1 : tie.Else1 = search in let at-get-u16 : tie.After-get-u16 = search in let s : tie.Start = search in
+    called-on (s .args .state .now) (s .args .loc) (s .pre .0) (s .args .name) (s .pre .3) (at-get-u16 .get-u16 .ensures .0) (else1 .if1 .left) (c .before .before .before .before .if2 .left) refl (c .before .before .put-u16 .ensures)
 
 pub call-spec : {M : Type 1} → statement M
 call-spec =

@@ -7,7 +7,9 @@ use Rattle.execute.proofs.declare.Statement.{statement}
 use Rattle.execute.proofs.declare.Tie as tie
 
 returns : tie.Need-returns
-returns c = let s = c .before .before .before .before .before .before .before in declared-law (s .args .state .now) (s .args .loc) (s .pre .0) (s .args .name) (s .pre .2) (ap step.Goes (c .on .ensures)) (c .before .before .before .put-u16 .ensures)
+returns c =
+    let s : tie.Start = search in
+    declared-law (s .args .state .now) (s .args .loc) (s .pre .0) (s .args .name) (s .pre .2) (ap step.Goes (c .on .ensures)) (c .before .before .before .put-u16 .ensures)
 
 pub declare-spec : {M : Type 1} → statement M
 declare-spec =

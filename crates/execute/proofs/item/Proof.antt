@@ -14,22 +14,34 @@ use Rattle.execute.proofs.item.Statement.{statement}
 use Rattle.execute.proofs.item.Tie as tie
 
 kind-at-requires : tie.Need-kind-at-requires
-kind-at-requires c κs = (name-formed (c .before .before .args .state .now) (c .before .before .pre .0) (c .before .before .args .name) (c .before .before .pre .1) (c .slot .ensures))
+kind-at-requires c κs =
+    let s : tie.Start = search in
+    (name-formed _ (s .pre .0) _ (s .pre .1) (c .slot .ensures))
 
 returns : tie.Need-returns
-returns c = item-off (namesOf (c .before .before .before .before .before .args .state .now) (c .before .before .before .before .before .args .name)) (c .before .before .before .before .before .args .name) (c .before .before .before .before .before .args .i) (c .before .before .kind-at .ensures ∙ ap (λ (o : Option Value). kindIn (seen o)) (name-value (c .before .before .before .before .before .args .state .now) (c .before .before .before .before .before .pre .0) (c .before .before .before .before .before .args .name) (c .before .before .before .before .before .pre .1) (c .before .before .before .slot .ensures))) (c .before .if1 .taken) (ap got.Err (c .no-array .ensures))
+returns c =
+    let s : tie.Start = search in
+    item-off (namesOf (s .args .state .now) (s .args .name)) (s .args .name) (s .args .i) (c .before .before .kind-at .ensures ∙ ap (λ (o : Option Value). kindIn (seen o)) (name-value _ (s .pre .0) _ (s .pre .1) (c .before .before .before .slot .ensures))) (c .before .if1 .taken) (ap got.Err (c .no-array .ensures))
 
 len-at-requires : tie.Need-len-at-requires
-len-at-requires c κs = (name-formed (c .before .before .before .before .args .state .now) (c .before .before .before .before .pre .0) (c .before .before .before .before .args .name) (c .before .before .before .before .pre .1) (c .before .before .slot .ensures))
+len-at-requires c κs =
+    let s : tie.Start = search in
+    (name-formed _ (s .pre .0) _ (s .pre .1) (c .before .before .slot .ensures))
 
 returns-2 : tie.Need-returns-2
-returns-2 c = item-past (part (c .before .before .before .before .before .before .before .args .state .now) (c .before .before .before .before .before .slot .result) 256) ((name-formed (c .before .before .before .before .before .before .before .args .state .now) (c .before .before .before .before .before .before .before .pre .0) (c .before .before .before .before .before .before .before .args .name) (c .before .before .before .before .before .before .before .pre .1) (c .before .before .before .before .before .slot .ensures)) .1) (sym (c .before .before .before .before .kind-at .ensures) ∙ c .before .before .before .if1 .left) (namesOf (c .before .before .before .before .before .before .before .args .state .now) (c .before .before .before .before .before .before .before .args .name)) (name-value (c .before .before .before .before .before .before .before .args .state .now) (c .before .before .before .before .before .before .before .pre .0) (c .before .before .before .before .before .before .before .args .name) (c .before .before .before .before .before .before .before .pre .1) (c .before .before .before .before .before .slot .ensures)) (c .before .before .before .before .before .before .before .args .name) (c .before .before .before .before .before .before .before .args .i) (c .before .before .len-at .result) (c .before .before .len-at .ensures) (c .before .if2 .taken) (ap got.Err (c .index-out-of-bounds .ensures))
+returns-2 c =
+    let at-slot : tie.After-slot = search in let s : tie.Start = search in
+    item-past (part (s .args .state .now) (at-slot .slot .result) 256) ((name-formed _ (s .pre .0) _ (s .pre .1) (at-slot .slot .ensures)) .1) (sym (c .before .before .before .before .kind-at .ensures) ∙ c .before .before .before .if1 .left) (namesOf (s .args .state .now) (s .args .name)) (name-value _ (s .pre .0) _ (s .pre .1) (at-slot .slot .ensures)) (s .args .name) (s .args .i) (c .before .before .len-at .result) (c .before .before .len-at .ensures) (c .before .if2 .taken) (ap got.Err (c .index-out-of-bounds .ensures))
 
 item-requires : tie.Need-item-requires
-item-requires c κs = let f = name-formed (c .before .before .before .before .before .before .args .state .now) (c .before .before .before .before .before .before .pre .0) (c .before .before .before .before .before .before .args .name) (c .before .before .before .before .before .before .pre .1) (c .before .before .before .before .slot .ensures) in (f .0, f .1, omega (arith, c .if2 .left, c .before .len-at .ensures))
+item-requires c κs =
+    let s : tie.Start = search in
+    let f = name-formed _ (s .pre .0) _ (s .pre .1) (c .before .before .before .before .slot .ensures) in (f .0, f .1, omega (arith, c .if2 .left, c .before .len-at .ensures))
 
 returns-3 : tie.Need-returns-3
-returns-3 c = item-in (part (c .before .before .before .before .before .before .before .args .state .now) (c .before .before .before .before .before .slot .result) 256) ((name-formed (c .before .before .before .before .before .before .before .args .state .now) (c .before .before .before .before .before .before .before .pre .0) (c .before .before .before .before .before .before .before .args .name) (c .before .before .before .before .before .before .before .pre .1) (c .before .before .before .before .before .slot .ensures)) .1) (sym (c .before .before .before .before .kind-at .ensures) ∙ c .before .before .before .if1 .left) (namesOf (c .before .before .before .before .before .before .before .args .state .now) (c .before .before .before .before .before .before .before .args .name)) (name-value (c .before .before .before .before .before .before .before .args .state .now) (c .before .before .before .before .before .before .before .pre .0) (c .before .before .before .before .before .before .before .args .name) (c .before .before .before .before .before .before .before .pre .1) (c .before .before .before .before .before .slot .ensures)) (c .before .before .before .before .before .before .before .args .name) (c .before .before .before .before .before .before .before .args .i) (c .before .before .len-at .result) (c .before .before .len-at .ensures) (c .before .if2 .left) (ap got.Ok (c .item .ensures))
+returns-3 c =
+    let at-slot : tie.After-slot = search in let s : tie.Start = search in
+    item-in (part (s .args .state .now) (at-slot .slot .result) 256) ((name-formed _ (s .pre .0) _ (s .pre .1) (at-slot .slot .ensures)) .1) (sym (c .before .before .before .before .kind-at .ensures) ∙ c .before .before .before .if1 .left) (namesOf (s .args .state .now) (s .args .name)) (name-value _ (s .pre .0) _ (s .pre .1) (at-slot .slot .ensures)) (s .args .name) (s .args .i) (c .before .before .len-at .result) (c .before .before .len-at .ensures) (c .before .if2 .left) (ap got.Ok (c .item .ensures))
 
 pub item-spec : {M : Type 1} → statement M
 item-spec =

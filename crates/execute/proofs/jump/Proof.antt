@@ -8,10 +8,14 @@ use Rattle.execute.proofs.jump.Tie as tie
 use Rattle.execute.specs.inner.ProgramView.{programIn}
 
 returns : tie.Need-returns
-returns c = let s = c .before .before .before .before in jumped-none (s .args .program .now) (programIn (s .args .program .now)) (s .pre .0) (s .args .loc) (s .args .lblidx) (s .pre .1) (c .before .before .get-u16 .ensures .0) (c .before .if1 .taken) (ap step.Stops (c .invalid-jump .ensures))
+returns c =
+    let s : tie.Start = search in
+    jumped-none (s .args .program .now) (programIn (s .args .program .now)) (s .pre .0) (s .args .loc) (s .args .lblidx) (s .pre .1) (c .before .before .get-u16 .ensures .0) (c .before .if1 .taken) (ap step.Stops (c .invalid-jump .ensures))
 
 returns-2 : tie.Need-returns-2
-returns-2 c = let s = c .before .before .before in jumped-some (s .args .program .now) (programIn (s .args .program .now)) (s .pre .0) (s .args .loc) (s .args .lblidx) (s .pre .1) (c .before .get-u16 .ensures .0) (c .if1 .left) refl
+returns-2 c =
+    let s : tie.Start = search in
+    jumped-some (s .args .program .now) (programIn (s .args .program .now)) (s .pre .0) (s .args .loc) (s .args .lblidx) (s .pre .1) (c .before .get-u16 .ensures .0) (c .if1 .left) refl
 
 pub jump-spec : {M : Type 1} → statement M
 jump-spec =

@@ -12,19 +12,23 @@ use Rattle.execute.proofs.loadarrv.Statement.{statement}
 use Rattle.execute.proofs.loadarrv.Tie as tie
 
 kind-at-requires : tie.Need-kind-at-requires
-kind-at-requires c κs = let s = c .before .before in reg-formed (s .args .state .now) (s .pre .0) (s .args .idx) (s .pre .2) (c .reg .ensures)
+kind-at-requires c κs = let s = c .before .before in reg-formed _ (s .pre .0) _ (s .pre .2) (c .reg .ensures)
 
 returns : tie.Need-returns
-returns c = let s = c .before .before .before .before .before in loadarrv-off (namesOf (s .args .state .now)) (s .args .name) (regsOf (s .args .state .now) (s .args .idx)) (c .before .before .kind-at .ensures ∙ ap (λ (o : Option Value). kindIn (seen o)) (reg-value (s .args .state .now) (s .pre .0) (s .args .idx) (s .pre .2) (c .before .before .before .reg .ensures))) (c .before .if1 .taken) (ap got.Err (c .ty-mismatch .ensures))
+returns c =
+    let s : tie.Start = search in
+    loadarrv-off (namesOf (s .args .state .now)) (s .args .name) (regsOf (s .args .state .now) (s .args .idx)) (c .before .before .kind-at .ensures ∙ ap (λ (o : Option Value). kindIn (seen o)) (reg-value _ (s .pre .0) _ (s .pre .2) (c .before .before .before .reg .ensures))) (c .before .if1 .taken) (ap got.Err (c .ty-mismatch .ensures))
 
 number-at-requires : tie.Need-number-at-requires
 number-at-requires c κs =
-    let s = c .before .before .before .before in
-    let f = (reg-formed (s .args .state .now) (s .pre .0) (s .args .idx) (s .pre .2) (c .before .before .reg .ensures)) in
+    let s : tie.Start = search in
+    let f = (reg-formed _ (s .pre .0) _ (s .pre .2) (c .before .before .reg .ensures)) in
     (f .0, f .1, sym (c .before .kind-at .ensures) ∙ c .if1 .left)
 
 returns-2 : tie.Need-returns-2
-returns-2 c = let s = c .before .before .before .before .before .before .before in loadarrv-at (namesOf (s .args .state .now)) (s .args .name) (regsOf (s .args .state .now) (s .args .idx)) (sym (reg-value (s .args .state .now) (s .pre .0) (s .args .idx) (s .pre .2) (c .before .before .before .before .before .reg .ensures)) ∙ c .before .before .number-at .ensures) (c .before .index-of .ensures) (c .item .ensures)
+returns-2 c =
+    let at-reg : tie.After-reg = search in let s : tie.Start = search in
+    loadarrv-at (namesOf (s .args .state .now)) (s .args .name) (regsOf (s .args .state .now) (s .args .idx)) (sym (reg-value _ (s .pre .0) _ (s .pre .2) (at-reg .reg .ensures)) ∙ c .before .before .number-at .ensures) (c .before .index-of .ensures) (c .item .ensures)
 
 pub loadarrv-spec : {M : Type 1} → statement M
 loadarrv-spec =

@@ -13,10 +13,14 @@ use Rattle.execute.proofs.loads.Tie as tie
 use Rattle.lent.specs.Lists.{zeros}
 
 put-requires : tie.Need-put-requires
-put-requires c κs = reg-formed (c .before .before .before .before .before .before .args .state .now) (c .before .before .before .before .before .before .pre .0) (c .before .before .before .before .before .before .args .dest) (c .before .before .before .before .before .before .pre .2) (c .reg .ensures)
+put-requires c κs =
+    let s : tie.Start = search in
+    reg-formed _ (s .pre .0) _ (s .pre .2) (c .reg .ensures)
 
 returns : tie.Need-returns
-returns c = fine (c .before .before .before .before .before .before .before .got .given .1) (ap step.Goes (c .on .ensures)) (c .before .before .before .put .ensures ∙ ap (λ (i : ℕ). splice (c .before .before .before .before .before .before .before .before .before .before .args .state .now) i (headBytes (c .before .before .before .before .before .before .before .got .given .0 .0 .kind) 0 (c .before .before .before .before .before .before .before .got .given .0 .0 .word) ++ zeros 240)) (c .before .before .before .before .reg .ensures))
+returns c =
+    let at-got : tie.After-got = search in let s : tie.Start = search in
+    fine (at-got .got .given .1) (ap step.Goes (c .on .ensures)) (c .before .before .before .put .ensures ∙ ap (λ (i : ℕ). splice (s .args .state .now) i (headBytes (at-got .got .given .0 .0 .kind) 0 (at-got .got .given .0 .0 .word) ++ zeros 240)) (c .before .before .before .before .reg .ensures))
 
 pub loads-spec : {M : Type 1} → statement M
 loads-spec =

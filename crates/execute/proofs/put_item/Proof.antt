@@ -9,10 +9,14 @@ use Rattle.execute.proofs.put_item.Statement.{statement}
 use Rattle.execute.proofs.put_item.Tie as tie
 
 stored-word-requires : tie.Need-stored-word-requires
-stored-word-requires c κs = entry-is (c .before .before .before .before .args .program .now) (16384 + 16 * c .before .before .before .before .args .k) (c .before .before .before .before .pre .4) refl (c .get-u64 .ensures)
+stored-word-requires c κs =
+    let s : tie.Start = search in
+    entry-is (s .args .program .now) (16384 + 16 * s .args .k) (s .pre .4) refl (c .get-u64 .ensures)
 
 returns : tie.Need-returns
-returns c = entry-put (c .before .before .before .before .before .before .before .before .before .args .program .now) (16384 + 16 * c .before .before .before .before .before .before .before .before .before .args .k) (c .before .before .before .before .before .before .before .before .before .pre .4) refl (c .before .before .before .before .before .get-u64 .ensures) (c .before .before .before .before .before .before .before .before .before .args .state .now) (c .before .before .before .before .before .before .before .before .before .args .at) (c .before .before .before .before .before .before .before .before .before .args .i) (c .before .before .before .before .before .before .before .before .before .pre .1) (c .before .before .before .before .before .before .before .before .before .pre .2) (c .before .before .before .before .stored-word .ensures) refl (c .before .before .put-u64 .ensures)
+returns c =
+    let at-get-u64 : tie.After-get-u64 = search in let s : tie.Start = search in
+    entry-put (s .args .program .now) (16384 + 16 * s .args .k) (s .pre .4) refl (at-get-u64 .get-u64 .ensures) (s .args .state .now) (s .args .at) (s .args .i) (s .pre .1) (s .pre .2) (c .before .before .before .before .stored-word .ensures) refl (c .before .before .put-u64 .ensures)
 
 pub put-item-spec : {M : Type 1} → statement M
 put-item-spec =

@@ -12,35 +12,38 @@ use Rattle.opc.specs.inner.Fetch.{recordAt}
 
 stored-requires : tie.Need-stored-requires
 stored-requires c κs =
-    let s = c .before .before .before .before .before .before in
+    let s : tie.Start = search in
     let b = s .args .program .now in
     let k = s .args .val in
     (omega (arith, s .pre .0), s .pre .3, literal-single b k (s .pre .4) (subst (λ (x : ℕ). x < 5) (c .before .before .kind-of .ensures) (c .before .if1 .taken)) .0)
 
 put-requires : tie.Need-put-requires
-put-requires c κs = let s = c .before .before .before .before .before .before .before in name-formed (s .args .state .now) (s .pre .1) (s .args .name) (s .pre .2) (c .before .before .before .before .slot .ensures)
+put-requires c κs =
+    let s : tie.Start = search in
+    name-formed _ (s .pre .1) _ (s .pre .2) (c .before .before .before .before .slot .ensures)
 
 returns : tie.Need-returns
 returns c =
-    let s = c .before .before .before .before .before .before .before .before .before .before in
+    let then1 : tie.Then1 = search in let at-kind-of : tie.After-kind-of = search in let at-slot : tie.After-slot = search in
+    let s : tie.Start = search in
     let b = s .args .program .now in
     let k = s .args .val in
-    literal-name (s .args .state .now) b k (s .pre .4) refl (stored-put (singleOf (recordAt b k .kind) (recordAt b k .word)) (s .args .state .now) (c .before .before .before .before .before .before .before .slot .result) (c .before .before .before .stored .ensures) (literal-single b k (s .pre .4) (subst (λ (x : ℕ). x < 5) (c .before .before .before .before .before .before .kind-of .ensures) (c .before .before .before .before .before .if1 .taken)) .1) (c .before .before .put .ensures)) (s .args .name) (s .pre .2) (c .before .before .before .before .before .before .before .slot .ensures)
+    literal-name (s .args .state .now) b k (s .pre .4) refl (stored-put (singleOf (recordAt b k .kind) (recordAt b k .word)) (s .args .state .now) (at-slot .slot .result) (c .before .before .before .stored .ensures) (literal-single b k (s .pre .4) (subst (λ (x : ℕ). x < 5) (at-kind-of .kind-of .ensures) (then1 .if1 .taken)) .1) (c .before .before .put .ensures)) (s .args .name) (s .pre .2) (at-slot .slot .ensures)
 
 put-contents-requires : tie.Need-put-contents-requires
 put-contents-requires c κs =
-    let s = c .before .before .before .before .before .before in
+    let s : tie.Start = search in
     let b = s .args .program .now in
     let k = s .args .val in
-    let f = name-formed (s .args .state .now) (s .pre .1) (s .args .name) (s .pre .2) (c .before .before .before .slot .ensures) in
+    let f = name-formed _ (s .pre .1) _ (s .pre .2) (c .before .before .before .slot .ensures) in
     (s .pre .0, f .0, f .1, s .pre .3, s .pre .4, λ z. omega (arith, c .before .if1 .left, c .before .before .kind-of .ensures, z))
 
 returns-2 : tie.Need-returns-2
 returns-2 c =
-    let s = c .before .before .before .before .before .before .before .before .before in
+    let at-slot : tie.After-slot = search in let s : tie.Start = search in
     let b = s .args .program .now in
     let k = s .args .val in
-    literal-name (s .args .state .now) b k (s .pre .4) refl (c .before .before .put-contents .ensures) (s .args .name) (s .pre .2) (c .before .before .before .before .before .before .slot .ensures)
+    literal-name (s .args .state .now) b k (s .pre .4) refl (c .before .before .put-contents .ensures) (s .args .name) (s .pre .2) (at-slot .slot .ensures)
 
 pub storec-spec : {M : Type 1} → statement M
 storec-spec =

@@ -10,7 +10,7 @@ stored-word-requires c κs = single-read (c .before .before .before .pre .2) (c 
 
 returns : tie.Need-returns
 returns c =
-    let s = c .before .before .before .before in
+    let s : tie.Start = search in
     let b = s .args .program .now in
     let k = s .args .val in
     stored-read (recordAt b k .kind) (recordAt b k .word) (s .pre .2) (c .before .before .kind-of .ensures) (c .before .word-of .ensures) (c .stored-word .ensures)

@@ -16,8 +16,9 @@ abbrev μ-loop : tie.MeasureT-loop
 
 loop-again : tie.Need-loop-again Inv-loop μ-loop
 loop-again c =
-    let a = c .before .before .before .before .before .before .before .args in
-    let l = c .before .before .before .before .before .loop in
+    let at-loop : tie.At-loop Inv-loop μ-loop = search in let s : tie.Start Inv-loop μ-loop = search in
+    let a = s .args in
+    let l = at-loop .loop in
     let z = length-replicate {A = ℕ} 136 0 in
     let t = clear-turn (a .d .now) (l .d) (a .n) (l .i) (l .inv .2) (l .inv .3) (omega arith) (l .i) 136 (omega arith) (omega arith) (l .i + 128) (omega arith) (c .before .before .zero .ensures) in (
       omega arith,
@@ -28,17 +29,20 @@ loop-again c =
 
 same-length : tie.Need-same-length Inv-loop μ-loop
 same-length c =
-    let l = c .before .before .before .before .before .loop in
+    let at-loop : tie.At-loop Inv-loop μ-loop = search in let s : tie.Start Inv-loop μ-loop = search in
+    let l = at-loop .loop in
     let z = length-replicate {A = ℕ} 136 0 in
-    ap length (c .before .before .zero2 .ensures) ∙ length-splice (l .d) (c .before .before .before .before .before .before .before .args .n - 136) (replicate 136 0) (omega arith) ∙ l .inv .1
+    ap length (c .before .before .zero2 .ensures) ∙ length-splice (l .d) (s .args .n - 136) (replicate 136 0) (omega arith) ∙ l .inv .1
 
 returns : tie.Need-returns Inv-loop μ-loop
 returns c =
-    let a = c .before .before .before .before .before .before .before .args in
-    let l = c .before .before .before .before .before .loop in
+    let at-zero2 : tie.After-zero2 Inv-loop μ-loop = search in let at-loop : tie.At-loop Inv-loop μ-loop = search in
+    let s : tie.Start Inv-loop μ-loop = search in
+    let a = s .args in
+    let l = at-loop .loop in
     let z = length-replicate {A = ℕ} 136 0 in
-    let m : length (c .before .before .zero2 .last .0) ≡ length (l .d) = ap length (c .before .before .zero2 .ensures) ∙ length-splice (l .d) (a .n - 136) (replicate 136 0) (omega arith) in
-    let t = clear-turn (a .d .now) (l .d) (a .n) (l .i) (l .inv .2) (l .inv .3) (omega arith) (a .n - 136) 136 (c .before .before .before .before .loop-test .left) (omega arith) (a .n) (omega arith) (c .before .before .zero2 .ensures) in
+    let m : length (at-zero2 .zero2 .last .0) ≡ length (l .d) = ap length (at-zero2 .zero2 .ensures) ∙ length-splice (l .d) (a .n - 136) (replicate 136 0) (omega arith) in
+    let t = clear-turn (a .d .now) (l .d) (a .n) (l .i) (l .inv .2) (l .inv .3) (omega arith) (a .n - 136) 136 (c .before .before .before .before .loop-test .left) (omega arith) (a .n) (omega arith) (at-zero2 .zero2 .ensures) in
     clear-end (a .d .now) _ (a .n) (omega arith) (t .0) (t .1)
 
 pub clear-spec : {M : Type 1} → statement M

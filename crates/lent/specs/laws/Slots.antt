@@ -6,8 +6,12 @@ use native.Mathlib.Nat.{not-suc-le-zero, le-of-suc-le-suc, zero-mul, suc-mul, ad
 use native.Mathlib.Omega.{arith}
 use lib.ListN.{length, take, drop, getD, set, replicate, length-append, length-drop, take-append-drop, replicate-append-replicate}
 use lib.Seq.{take-at, drop-at, length-take-le}
-use Rattle.lent.specs.Bytes.{part, splice, slots, concat, Wide, none, more}
+use Rattle.lent.specs.Bytes.{part, splice, slots, concat, Each, none, more}
 use Rattle.lent.specs.laws.Parts.{part-append-right, splice-append-right, splice-drop, take-splice}
+
+-- each list has w elements
+abbrev pub Wide : ℕ → List (List ℕ) → Type 0
+Wide w = Each (λ (a : List ℕ). length a ≡ w)
 
 -- slot i ends where slot n begins, or before
 pub slot-end : (w n i : ℕ) → i < n → i * w + w ≤ n * w

@@ -5,10 +5,19 @@ use Rattle.listing.proofs.put_bound.Statement.{statement}
 use Rattle.listing.proofs.put_bound.Tie as tie
 
 returns : tie.Need-returns
-returns c = λ t p e l. no-bound (c .before .before .before .before .before .before .before .before .before .args .file .now) (c .before .before .before .before .before .before .bound .ensures) e l (c .before .before .before .before .before .if1 .taken) (c .before .before .put-all .ensures)
+returns c =
+    let n : tie.After-bound = search in
+    let s : tie.Start = search in
+    λ t p e l. no-bound (s .args .file .now) (n .bound .ensures) e l (c .before .before .before .before .before .if1 .taken) (c .before .before .put-all .ensures)
 
 returns-2 : tie.Need-returns-2
-returns-2 c = λ t p e l. let h = c .before .before .before .before .before .before .before .before .before .before .before .before .before .before .before .before .before .before .pre in plain-bound (c .before .before .before .before .before .before .before .before .before .before .before .before .before .before .before .before .before .before .args .file .now) (c .before .before .before .before .before .before .before .before .before .before .before .before .before .before .before .bound .ensures) e l (c .before .before .before .before .before .before .before .before .before .before .before .before .before .before .if1 .left) (put-then h (put-then h (c .before .before .before .before .before .before .before .before .before .before .before .put-all2 .ensures) (c .before .before .before .before .before .before .before .put-decimal .ensures)) (c .before .before .put-all3 .ensures))
+returns-2 c =
+    let q : tie.After-put-decimal = search in
+    let p : tie.After-put-all2 = search in
+    let k : tie.Else1 = search in
+    let n : tie.After-bound = search in
+    let s : tie.Start = search in
+    λ t r e l. plain-bound (s .args .file .now) (n .bound .ensures) e l (k .if1 .left) (put-then (s .pre) (put-then (s .pre) (p .put-all2 .ensures) (q .put-decimal .ensures)) (c .before .before .put-all3 .ensures))
 
 pub put-bound-spec : {M : Type 1} → statement M
 put-bound-spec =

@@ -4,7 +4,11 @@ use Rattle.listing.proofs.put_refused.Statement.{statement}
 use Rattle.listing.proofs.put_refused.Tie as tie
 
 returns : tie.Need-returns
-returns c = let h = c .before .before .before .before .before .before .before .before .before .before .before .before .before .before .before .pre in put-then h (put-then h (c .before .before .before .before .before .before .before .before .before .before .before .put-all .ensures) (c .before .before .before .before .before .before .before .put-decimal .ensures)) (c .before .before .put-all2 .ensures)
+returns c =
+    let s : tie.Start = search in
+    let p : tie.After-put-all = search in
+    let q : tie.After-put-decimal = search in
+    put-then (s .pre) (put-then (s .pre) (p .put-all .ensures) (q .put-decimal .ensures)) (c .before .before .put-all2 .ensures)
 
 pub put-refused-spec : {M : Type 1} → statement M
 put-refused-spec =

@@ -9,53 +9,56 @@ use Rattle.lower.proofs.compile.Tie as tie
 
 lower-tree-requires : tie.Need-lower-tree-requires
 lower-tree-requires c κs =
-    let s = c .before .before .before .before .before .before in
+    let s : tie.Start = search in
     let t = s .pre .0 .0 in
     let sp = s .pre .0 .1 in
     (one-ready t (s .pre .1 .0) (s .args .program .now) (sp .within) (sp .few) (s .pre .1 .1), (t, sp .within, sp .few, sp .contents, sp .parts, sp .numbers))
 
 returns-2 : tie.Need-returns-2
 returns-2 c t rest sp z =
+    let s : tie.Start = search in
     let did = c .before .before .before .before .lower-tree .ensures t (sp .within) (sp .few) (sp .contents) (sp .parts) (sp .numbers) refl in
-    one-refused t rest (c .before .before .before .before .before .before .before .before .before .before .before .args .program .now) (sp .within) (sp .few) z _ _ did (c .if2 .taken)
+    one-refused t rest (s .args .program .now) (sp .within) (sp .few) z _ _ did (c .if2 .taken)
 
 finish-requires : tie.Need-finish-requires
 finish-requires c κs =
-    let s = c .before .before .before .before .before .before .before .before .before .before .before .before .before .before in
+    let at-lower-tree : tie.After-lower-tree = search in let s : tie.Start = search in
     let t = s .pre .0 .0 in
     let sp = s .pre .0 .1 in
-    let did = c .before .before .before .before .before .before .before .lower-tree .ensures t (sp .within) (sp .few) (sp .contents) (sp .parts) (sp .numbers) refl in
+    let did = at-lower-tree .lower-tree .ensures t (sp .within) (sp .few) (sp .contents) (sp .parts) (sp .numbers) refl in
     let a = one-asks t (s .pre .1 .0) (s .args .program .now) (sp .within) (sp .few) (s .pre .1 .1) _ _ did (c .before .before .before .if2 .left) (c .before .if3 .taken) in
     ((a .long, a .few, a .labels, a .functions), (_, a .records))
 
 returns-3 : tie.Need-returns-3
 returns-3 c t rest sp z =
-    let b = c .before .before .before .before .before .before .before .before .before .before .before .before .before .before .before .before .before .args .program .now in
-    let did = c .before .before .before .before .before .before .before .before .before .before .lower-tree .ensures t (sp .within) (sp .few) (sp .contents) (sp .parts) (sp .numbers) refl in
-    let o = c .before .before .before .before .before .before .if2 .left in
+    let else2 : tie.Else2 = search in let at-lower-tree : tie.After-lower-tree = search in let s : tie.Start = search in
+    let b = s .args .program .now in
+    let did = at-lower-tree .lower-tree .ensures t (sp .within) (sp .few) (sp .contents) (sp .parts) (sp .numbers) refl in
+    let o = else2 .if2 .left in
     let h = c .before .before .before .before .if3 .taken in
     one-gives t rest b (sp .within) (sp .few) z _ _ did o h _ (c .before .before .finish .ensures _ (one-asks t rest b (sp .within) (sp .few) z _ _ did o h .records))
 
 clear-requires : tie.Need-clear-requires
 clear-requires c κs =
-    let s = c .before .before .before .before .before .before .before .before .before .before .before .before .before .before in
+    let at-lower-tree : tie.After-lower-tree = search in let s : tie.Start = search in
     let t = s .pre .0 .0 in
     let sp = s .pre .0 .1 in
-    let did = c .before .before .before .before .before .before .before .lower-tree .ensures t (sp .within) (sp .few) (sp .contents) (sp .parts) (sp .numbers) refl in
+    let did = at-lower-tree .lower-tree .ensures t (sp .within) (sp .few) (sp .contents) (sp .parts) (sp .numbers) refl in
     (omega arith, pass-long t (s .pre .1 .0) (s .args .program .now) (sp .within) (sp .few) (s .pre .1 .1) onePass _ _ did)
 
 compile-both-requires-2 : tie.Need-compile-both-requires-2
 compile-both-requires-2 c κs =
-    let s = c .before .before .before .before .before .before .before .before .before .before .before .before .before .before .before .before .before .before in
+    let at-lower-tree : tie.After-lower-tree = search in let s : tie.Start = search in
     let t = s .pre .0 .0 in
     let sp = s .pre .0 .1 in
-    let did = c .before .before .before .before .before .before .before .before .before .before .before .lower-tree .ensures t (sp .within) (sp .few) (sp .contents) (sp .parts) (sp .numbers) refl in
+    let did = at-lower-tree .lower-tree .ensures t (sp .within) (sp .few) (sp .contents) (sp .parts) (sp .numbers) refl in
     ((t, sp), (s .pre .1 .0, pass-cleared t (s .pre .1 .0) (s .args .program .now) (sp .within) (sp .few) (s .pre .1 .1) onePass _ _ did _ (c .before .before .before .clear .ensures)))
 
 returns-4 : tie.Need-returns-4
 returns-4 c t rest sp z =
-    let did = c .before .before .before .before .before .before .before .before .before .before .before .before .before .before .lower-tree .ensures t (sp .within) (sp .few) (sp .contents) (sp .parts) (sp .numbers) refl in
-    c .before .before .compile-both2 .ensures t rest sp (pass-cleared t rest (c .before .before .before .before .before .before .before .before .before .before .before .before .before .before .before .before .before .before .before .before .before .args .program .now) (sp .within) (sp .few) z onePass _ _ did _ (c .before .before .before .before .before .before .clear .ensures))
+    let at-clear : tie.After-clear = search in let at-lower-tree : tie.After-lower-tree = search in let s : tie.Start = search in
+    let did = at-lower-tree .lower-tree .ensures t (sp .within) (sp .few) (sp .contents) (sp .parts) (sp .numbers) refl in
+    c .before .before .compile-both2 .ensures t rest sp (pass-cleared t rest (s .args .program .now) (sp .within) (sp .few) z onePass _ _ did _ (at-clear .clear .ensures))
 
 pub compile-spec : {M : Type 1} → statement M
 compile-spec =

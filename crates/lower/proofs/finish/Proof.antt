@@ -8,10 +8,11 @@ use Rattle.lower.proofs.finish.Tie as tie
 
 returns : tie.Need-returns
 returns c cs r =
-    let a = c .before .before .before .before .before .before .before .before .before .before .before .before .before .args in
+    let at-put-u16 : tie.After-put-u16 = search in let at-compute : tie.After-compute = search in let s : tie.Start = search in
+    let a = s .args in
     c .before .before .put-u162 .ensures
     ∙ ap (λ (b : List ℕ). splice b 34946 (beBytes 2 (a .start)))
-    (c .before .before .before .before .before .before .put-u16 .ensures ∙ ap (λ (b : List ℕ). splice b 34944 (beBytes 2 (a .n))) (c .before .before .before .before .before .before .before .before .before .before .compute .ensures cs r))
+    (at-put-u16 .put-u16 .ensures ∙ ap (λ (b : List ℕ). splice b 34944 (beBytes 2 (a .n))) (at-compute .compute .ensures cs r))
 
 pub finish-spec : {M : Type 1} → statement M
 finish-spec =

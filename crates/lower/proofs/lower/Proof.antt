@@ -10,36 +10,42 @@ use Rattle.lower.proofs.lower.Statement.{statement}
 use Rattle.lower.proofs.lower.Tie as tie
 
 returns : tie.Need-returns
-returns c = let s = c .before .before .before in short-gives (s .args .file .now) (s .args .program .now) (c .if1 .taken)
+returns c =
+    let s : tie.Start = search in
+    short-gives (s .args .file .now) (s .args .program .now) (c .if1 .taken)
 
 returns-2 : tie.Need-returns-2
-returns-2 c = let s = c .before .before .before .before .before .before .before .before .before in refused-file (s .args .file .now) (s .args .program .now) (omega (arith, c .before .before .before .before .before .before .if1 .left)) (c .before .read .result) _ (c .before .read .ensures) (c .if2 .taken) (c .before .before .before .before .clear .ensures)
+returns-2 c =
+    let else1 : tie.Else1 = search in let s : tie.Start = search in
+    refused-file (s .args .file .now) (s .args .program .now) (omega (arith, else1 .if1 .left)) (c .before .read .result) _ (c .before .read .ensures) (c .if2 .taken) (c .before .before .before .before .clear .ensures)
 
 lower-read-requires : tie.Need-lower-read-requires
 lower-read-requires c κs =
-    let s = c .before .before .before .before .before .before .before .before .before .before in
+    let at-clear : tie.After-clear = search in let else1 : tie.Else1 = search in let s : tie.Start = search in
     let b = s .args .program .now in
-    (sym (c .before .before .read .ensures) ∙ c .before .if2 .left, (drop 40960 b, cleared (s .args .file .now) b (omega (arith, c .before .before .before .before .before .before .before .if1 .left)) _ (c .before .before .before .before .before .clear .ensures)))
+    (sym (c .before .before .read .ensures) ∙ c .before .if2 .left, (drop 40960 b, cleared (s .args .file .now) b (omega (arith, else1 .if1 .left)) _ (at-clear .clear .ensures)))
 
 returns-3 : tie.Need-returns-3
 returns-3 c =
-    let s = c .before .before .before .before .before .before .before .before .before .before .before .before .before .before .before .before .before .before in
+    let at-lower-read : tie.After-lower-read = search in let else2 : tie.Else2 = search in let at-read : tie.After-read = search in
+    let at-clear : tie.After-clear = search in let else1 : tie.Else1 = search in let s : tie.Start = search in
     let f = s .args .file .now in
     let b = s .args .program .now in
-    let l : 40960 ≤ length b = omega (arith, c .before .before .before .before .before .before .before .before .before .before .before .before .before .before .before .if1 .left) in
-    let t = accepted-tree f (sym (c .before .before .before .before .before .before .before .before .before .before .read .ensures) ∙ c .before .before .before .before .before .before .before .before .before .if2 .left) in
-    let made = c .before .before .before .before .before .before .before .lower-read .ensures (t .0) (drop 40960 b) (t .1) (cleared f b l _ (c .before .before .before .before .before .before .before .before .before .before .before .before .before .clear .ensures)) in
-    refused-tree f b l (t .0) (t .1) (c .before .before .before .before .before .before .before .lower-read .result) _ _ made (c .before .before .before .before .if3 .taken) (c .before .before .clear2 .ensures)
+    let l : 40960 ≤ length b = omega (arith, else1 .if1 .left) in
+    let t = accepted-tree f (sym (at-read .read .ensures) ∙ else2 .if2 .left) in
+    let made = at-lower-read .lower-read .ensures (t .0) (drop 40960 b) (t .1) (cleared f b l _ (at-clear .clear .ensures)) in
+    refused-tree f b l (t .0) (t .1) (at-lower-read .lower-read .result) _ _ made (c .before .before .before .before .if3 .taken) (c .before .before .clear2 .ensures)
 
 returns-4 : tie.Need-returns-4
 returns-4 c =
-    let s = c .before .before .before .before .before .before .before .before .before .before .before .before .before .before in
+    let else2 : tie.Else2 = search in let at-read : tie.After-read = search in let at-clear : tie.After-clear = search in
+    let else1 : tie.Else1 = search in let at-shared-slice-known : tie.After-shared-slice-known = search in let s : tie.Start = search in
     let f = s .args .file .now in
     let b = s .args .program .now in
-    let l : 40960 ≤ length b = omega (arith, c .before .before .before .before .before .before .before .before .before .before .before .if1 .left) in
-    let t = accepted-tree f (sym (c .before .before .before .before .before .before .read .ensures) ∙ c .before .before .before .before .before .if2 .left) in
-    let made = c .before .before .before .lower-read .ensures (t .0) (drop 40960 b) (t .1) (cleared f b l _ (c .before .before .before .before .before .before .before .before .before .clear .ensures)) in
-    lowered-tree f b l (t .0) (t .1) _ (bytes-of f (λ i. omega (arith, c .before .before .before .before .before .before .before .before .before .before .before .before .before .shared-slice-known .given i))) (rw (c .if3 .left) at made)
+    let l : 40960 ≤ length b = omega (arith, else1 .if1 .left) in
+    let t = accepted-tree f (sym (at-read .read .ensures) ∙ else2 .if2 .left) in
+    let made = c .before .before .before .lower-read .ensures (t .0) (drop 40960 b) (t .1) (cleared f b l _ (at-clear .clear .ensures)) in
+    lowered-tree f b l (t .0) (t .1) _ (bytes-of f (λ i. omega (arith, at-shared-slice-known .shared-slice-known .given i))) (rw (c .if3 .left) at made)
 
 pub lower-spec : {M : Type 1} → statement M
 lower-spec =

@@ -16,40 +16,51 @@ part-text-bytes-end : tie.Need-part-text-bytes-end
 part-text-bytes-end c = omega (arith, contents-fit (c .before .before .before .before .args .file .now) (c .before .before .before .before .pre .0) (c .get-u16 .result) (c .get-u16 .ensures .0))
 
 text-bytes-requires : tie.Need-text-bytes-requires
-text-bytes-requires c κs = lengths-few (c .before .before .before .before .before .args .file .now) (c .before .before .before .before .before .pre .0) (c .before .get-u16 .result) (c .before .get-u16 .ensures .0)
+text-bytes-requires c κs =
+    let s : tie.Start = search in
+    lengths-few (s .args .file .now) (s .pre .0) (c .before .get-u16 .result) (c .before .get-u16 .ensures .0)
 
 part-compile-end : tie.Need-part-compile-end
-part-compile-end c = omega (arith, contents-fit (c .before .before .before .before .before .before .args .file .now) (c .before .before .before .before .before .before .pre .0) (c .before .before .get-u16 .result) (c .before .before .get-u16 .ensures .0))
+part-compile-end c =
+    let s : tie.Start = search in
+    omega (arith, contents-fit (s .args .file .now) (s .pre .0) (c .before .before .get-u16 .result) (c .before .before .get-u16 .ensures .0))
 
 add-compile : tie.Need-add-compile
-add-compile c = omega (arith, texts-fit (c .before .before .before .before .before .before .before .args .file .now) (c .before .before .before .before .before .before .before .pre .0) (c .before .before .before .get-u16 .result) (c .before .before .before .get-u16 .ensures .0) (c .before .text-bytes .result) (c .before .text-bytes .ensures .0))
+add-compile c =
+    let s : tie.Start = search in
+    omega (arith, texts-fit (s .args .file .now) (s .pre .0) (c .before .before .before .get-u16 .result) (c .before .before .before .get-u16 .ensures .0) (c .before .text-bytes .result) (c .before .text-bytes .ensures .0))
 
 sub-compile-2 : tie.Need-sub-compile-2
-sub-compile-2 c = omega (arith, texts-fit (c .before .before .before .before .before .before .before .args .file .now) (c .before .before .before .before .before .before .before .pre .0) (c .before .before .before .get-u16 .result) (c .before .before .before .get-u16 .ensures .0) (c .before .text-bytes .result) (c .before .text-bytes .ensures .0))
+sub-compile-2 c =
+    let s : tie.Start = search in
+    omega (arith, texts-fit (s .args .file .now) (s .pre .0) (c .before .before .before .get-u16 .result) (c .before .before .before .get-u16 .ensures .0) (c .before .text-bytes .result) (c .before .text-bytes .ensures .0))
 
 part-compile-start-2 : tie.Need-part-compile-start-2
-part-compile-start-2 c = omega (arith, texts-fit (c .before .before .before .before .before .before .before .args .file .now) (c .before .before .before .before .before .before .before .pre .0) (c .before .before .before .get-u16 .result) (c .before .before .before .get-u16 .ensures .0) (c .before .text-bytes .result) (c .before .text-bytes .ensures .0))
+part-compile-start-2 c =
+    let s : tie.Start = search in
+    omega (arith, texts-fit (s .args .file .now) (s .pre .0) (c .before .before .before .get-u16 .result) (c .before .before .before .get-u16 .ensures .0) (c .before .text-bytes .result) (c .before .text-bytes .ensures .0))
 
 compile-requires : tie.Need-compile-requires
 compile-requires c κs =
-    let s = c .before .before .before .before .before .before .before .before .before in
+    let at-get-u16 : tie.After-get-u16 = search in let at-shared-slice-known : tie.After-shared-slice-known = search in let s : tie.Start = search in
     let f = s .args .file .now in
     let t = accepted-tree f (s .pre .0) in (
       (
         t .0,
-        tree-spelt f (s .pre .0) (c .before .before .before .before .before .get-u16 .result) (c .before .before .before .before .before .get-u16 .ensures .0) (c .before .before .before .text-bytes .result) (c .before .before .before .text-bytes .ensures .0) (t .0)
-            (bytes-of f (λ i. omega (arith, c .before .before .before .before .before .before .before .before .shared-slice-known .given i))) (t .1),
+        tree-spelt f (s .pre .0) (at-get-u16 .get-u16 .result) (at-get-u16 .get-u16 .ensures .0) (c .before .before .before .text-bytes .result) (c .before .before .before .text-bytes .ensures .0) (t .0)
+            (bytes-of f (λ i. omega (arith, at-shared-slice-known .shared-slice-known .given i))) (t .1),
       ),
       s .pre .1,
     )
 
 returns : tie.Need-returns
 returns c t rest e z =
-    let s = c .before .before .before .before .before .before .before .before .before .before .before .before in
+    let at-text-bytes : tie.After-text-bytes = search in let at-get-u16 : tie.After-get-u16 = search in
+    let at-shared-slice-known : tie.After-shared-slice-known = search in let s : tie.Start = search in
     let f = s .args .file .now in
     c .before .before .compile .ensures t rest
-    (tree-spelt f (s .pre .0) (c .before .before .before .before .before .before .before .before .get-u16 .result) (c .before .before .before .before .before .before .before .before .get-u16 .ensures .0) (c .before .before .before .before .before .before .text-bytes .result) (c .before .before .before .before .before .before .text-bytes .ensures .0) t
-    (bytes-of f (λ i. omega (arith, c .before .before .before .before .before .before .before .before .before .before .before .shared-slice-known .given i))) e)
+    (tree-spelt f (s .pre .0) (at-get-u16 .get-u16 .result) (at-get-u16 .get-u16 .ensures .0) (at-text-bytes .text-bytes .result) (at-text-bytes .text-bytes .ensures .0) t
+    (bytes-of f (λ i. omega (arith, at-shared-slice-known .shared-slice-known .given i))) e)
     z
 
 pub lower-read-spec : {M : Type 1} → statement M

@@ -24,13 +24,13 @@ whole c = cut (e c) (k c) (omega arith)
 
 product-requires : tie.Need-product-requires
 product-requires c κs =
-    let start = c .before .before .before in
+    let start : tie.Start = search in
     let p : 0 < start .args .n = omega (arith, start .pre .1) in
     (c .before .power .ensures .1, omega (arith, start .pre .2, c .reduced .ensures, mod-lt (start .args .m * 2 ^ (start .args .s - e start / 2 ^ k start * 2 ^ k start % 18446744073709551616)) p), c .before .before .reciprocal-of .ensures)
 
 returns : tie.Need-returns
 returns c =
-    let start = c .before .before .before .before in
+    let start : tie.Start = search in
     let w = whole start in
     c .product .ensures .0
     ∙ far-same (start .args .m) (start .args .n) (start .args .s) _ _ (c .before .before .power .result) (c .before .reduced .result) (w .0) (omega arith)

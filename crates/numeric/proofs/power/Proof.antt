@@ -25,8 +25,8 @@ product-requires c κs = (c .before .loop .inv .1, c .before .loop .inv .1, c .b
 
 loop-again : tie.Need-loop-again Inv-loop μ-loop
 loop-again c =
+    let start : tie.Start Inv-loop μ-loop = search in
     let l = c .before .before .loop in
-    let start = c .before .before .before in
     (squared (l .x) (c .product .result) (start .args .n) (start .args .c) (l .i) (l .inv .0) (c .product .ensures .0), c .product .ensures .1, omega arith)
 
 returns : tie.Need-returns Inv-loop μ-loop

@@ -12,18 +12,21 @@ use Rattle.numeric.proofs.remainder_of.Tie as tie
 
 -- where the leading digit of n goes
 found : (c : tie.Else2) → Moved (c .before .before .args .n) (leadingZeros 64 (c .before .before .args .n))
-found c = moved (c .before .before .args .n) (c .before .before .pre .1) (c .before .before .pre .2)
+found c =
+    let s : tie.Start = search in
+    moved (s .args .n) (s .pre .1) (s .pre .2)
 
 far-requires-2 : tie.Need-far-requires-2
 far-requires-2 c κs =
+    let s : tie.Start = search in
     let m = found c in
-    let n = c .before .before .args .n * 2 ^ (leadingZeros 64 (c .before .before .args .n) - 11) in
+    let n = s .args .n * 2 ^ (leadingZeros 64 (s .args .n) - 11) in
     let same : n % 18446744073709551616 ≡ n = mod-eq-of-lt (omega arith) in
-    (c .before .before .pre .0, omega arith, omega arith, omega arith)
+    (s .pre .0, omega arith, omega arith, omega arith)
 
 returns-3 : tie.Need-returns-3
 returns-3 c =
-    let start = c .before .before .before in
+    let start : tie.Start = search in
     moved-back (start .args .m) (start .args .n) (start .args .s) (leadingZeros 64 (start .args .n) - 11) (c .far2 .result) (start .pre .1) (found (c .before) .below) (c .far2 .ensures)
 
 pub remainder-of-spec : {M : Type 1} → statement M

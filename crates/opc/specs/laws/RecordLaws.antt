@@ -14,12 +14,12 @@ use Rattle.lent.specs.laws.Numbers.{beValue-beBytes}
 use Rattle.sifv.specs.Value.{Single, Value, One, Arr, Tab, Num, Bl, Null, Str as Text}
 use Rattle.sifv.specs.Slot.{singleKind, wordOf, singlesOk}
 use Rattle.sifv.specs.laws.Layout.{and-left, and-right}
-use Rattle.sifv.specs.laws.SlotLaws.{stored-singles, word-lt, word-back, single-back}
+use Rattle.sifv.specs.laws.SlotLaws.{stored-singles, word-lt, word-back, single-back, Stored}
 use Rattle.opc.specs.Op.{BinOpKind, Add, Sub, Mul, Div, Modu, Eq, Neq, LtEq, Lt, GtEq, Gt, Land, Lnot, Lor, UnOpKind, Lneg, Nneg, JmpOpKind, Jmpt, Jmpf}
 use Rattle.opc.specs.Op.{Op, Binary, Unary, Ldc, Ldn, Mv, Ldas, Ldav, Upda, Stc, Stn, Str, JmpCnd, Jmpa, Incrr, Decrr, Fn, Call, FnRet, FnStackPush, FnStackPop, Tbli, Tblg, Nop, Stop, Instr, instr, op}
 use Rattle.opc.specs.Record.{binNumber, binKinds, unNumber, jmpNumber, pick, Fields, fieldBytes, fieldsOf, literalItems, itemsOf, itemBytes, literalFields, opFields, encodeInstr, regOk, textOk, lblOk, single, itemOf, itemList, itemsAt, literalOf, params, decoders, decodeInstr}
 use Rattle.lent.specs.Lists.{when, with}
-use Rattle.sifv.specs.Limits.{ValueFits, Stored}
+use Rattle.sifv.specs.Limits.{ValueFits}
 use Rattle.opc.specs.Limits.{OpFits, instrOk, literalOk, opOk, paramsOk}
 
 -- ---- operands in range

@@ -14,12 +14,12 @@ use Rattle.lent.specs.Bytes.{beValue, part, Each, none, more}
 use Rattle.sifv.specs.Value.{Single, Value, One, Arr, Tab, Num, Bl, Null, Str as Text}
 use Rattle.sifv.specs.Slot.{singleOf}
 use Rattle.sifv.specs.laws.Layout.{and-right, and-both}
-use Rattle.sifv.specs.laws.SlotLaws.{stored-ok, stored-fit}
+use Rattle.sifv.specs.laws.SlotLaws.{stored-ok, stored-fit, Stored}
 use Rattle.opc.specs.Op.{Lneg, Nneg, Jmpt, Jmpf}
 use Rattle.opc.specs.Op.{Op, Binary, Unary, Ldc, Ldn, Mv, Ldas, Ldav, Upda, Stc, Stn, Str, JmpCnd, Jmpa, Incrr, Decrr, Fn, Call, FnRet, FnStackPush, FnStackPop, Tbli, Tblg, Nop, Stop, Instr, instr, op}
 use Rattle.opc.specs.Record.{binKinds, pick, Fields, fieldsOf, literalItems, itemsOf, regOk, textOk, lblOk, wordOk, single, itemOf, itemList, itemsAt, literalOf, param, params, decoders, decodeInstr}
 use Rattle.lent.specs.Lists.{when, with, onlyIf}
-use Rattle.sifv.specs.Limits.{ValueFits, Stored}
+use Rattle.sifv.specs.Limits.{ValueFits}
 use Rattle.opc.specs.Limits.{literalOk, paramsOk, opOk, instrOk, OpFits}
 
 -- ---- what holds of a result, if there is one

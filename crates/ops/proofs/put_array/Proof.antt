@@ -1,15 +1,10 @@
-use Rattle.text.specs.laws.PutLaws.{put-within, put-then}
+use Rattle.text.specs.laws.PutLaws.{put-within}
+use Rattle.text.specs.laws.Joined.{put-three}
 use borrow.Author.Needs.{needs}
 use Rattle.ops.proofs.put_array.Statement.{statement}
 use Rattle.ops.proofs.put_array.Tie as tie
 
-put-items-requires : tie.Need-put-items-requires
-put-items-requires c κs = let s = c .before .before .before .before .before .before .before .before in (put-within (s .pre .0) (c .before .before .before .put-all .ensures), s .pre .1, s .pre .2)
-
-returns : tie.Need-returns
-returns c = put-then (c .before .before .before .before .before .before .before .before .before .before .before .before .before .before .before .before .pre .0) (c .before .before .before .before .before .before .before .before .before .before .before .put-all .ensures) (put-then (put-within (c .before .before .before .before .before .before .before .before .before .before .before .before .before .before .before .before .pre .0) (c .before .before .before .before .before .before .before .before .before .before .before .put-all .ensures)) (c .before .before .before .before .before .before .before .put-items .ensures) (c .before .before .put-all2 .ensures))
-
 pub put-array-spec : {M : Type 1} → statement M
 put-array-spec =
-    tie.close (tie.spec (λ c. search needs) (λ c κs. search needs) put-items-requires
-    (λ c. search needs) (λ c κs. search needs) (λ c. search needs) returns)
+    tie.close (tie.spec (λ c. search needs) (λ c κs. search needs) (λ c κs. search put-within)
+    (λ c. search needs) (λ c κs. search needs) (λ c. search needs) (λ c. search put-three))

@@ -20,25 +20,20 @@ use Rattle.sifv.specs.laws.Laws.{plain-shown}
 use Rattle.sifv.specs.declared.SifVal.{SifVal}
 use Rattle.opc.specs.Op.{Op, Binary, Unary, Ldc, Ldn, Mv, Ldas, Ldav, Upda, Stc, Stn, Str, JmpCnd, Jmpa, Incrr, Decrr, Fn, Call, FnRet, FnStackPush, FnStackPop, Tbli, Tblg, Nop, Stop, Instr, instr, label, op, Code}
 use Rattle.opc.specs.Record.{Fields, literalItems}
-use Rattle.opc.specs.inner.Fetch.{pickOr}
 use Rattle.tables.specs.Tables.{Program, entered, labelAt, declares, declared, functionAt}
 use Rattle.tables.specs.ProgramBytes.{indexWord}
 use Rattle.vm.specs.laws.StateLaws.{below-word}
 use Rattle.vm.specs.laws.Kept.{label-below}
 use Rattle.text.specs.Text.{ascii, decimal, singleText, joined, words, lineOf}
 use Rattle.text.specs.Put.{Put}
-use Rattle.text.specs.laws.PutLaws.{put-then}
+use Rattle.text.specs.laws.PutLaws.{put-as, put-then}
 use Rattle.text.specs.laws.Joined.{row-end}
 use Rattle.ops.specs.ProgramText.{opWords, opLine, opLines, indexLine, indexLines, highest, programText}
-use Rattle.ops.specs.inner.Told.{itemTold, paramAt, literalTold, operationsTold, opIn, Within, PooledTold, instrAt, entryLine, tableEntry}
+use Rattle.ops.specs.inner.Told.{itemTold, paramAt, literalTold, Within, PooledTold, instrAt, entryLine, tableEntry}
 use Rattle.ops.specs.laws.ToldLaws.{length-tabulate, Accepted}
 use Rattle.lent.specs.Lists.{tabulate}
 
 -- ---- written
-
--- the same text
-pub put-as : {out : List ℕ} {at : ℕ} {x y : List ℕ} {o : List ℕ} {r : ℕ} → y ≡ x → Put out at x o r → Put out at y o r
-put-as {out} {at} {o = o} {r = r} e p = subst (λ (t : List ℕ). Put out at t o r) (sym e) p
 
 -- a loop's turn: one text more of the row that begins at i
 pub put-row : {out : List ℕ} {at : ℕ} → at ≤ length out → (t : ℕ → List ℕ) (L : ℕ → ℕ → List ℕ) → ((i : ℕ) → L i zero ≡ []) → ((i n : ℕ) → L i (suc n) ≡ t i ++ L (suc i) n)
@@ -61,23 +56,14 @@ item-text k w e p q = ap singleText (sym (ap singleSeen e ∙ plain-shown (singl
 pub literal-single : (b : List ℕ) (k n w : ℕ) → (k ≡ 5 → ⊥) → (k ≡ 6 → ⊥) → literalTold b k n w ≡ One (singleOf k w)
 literal-single b k n w h g = rw (ne-eqb k 5 h, ne-eqb k 6 g)
 
+-- what an array's literal and a function keep in the pool: as many entries as the record says
 module _ (b : List ℕ) (f : Fields) where
-  literal-within : Within (f .word) (length (literalItems (literalTold b (f .kind) (f .len) (f .word)))) → f .kind ≡ 5 → Within (f .word) (f .len)
+  pub literal-within : Within (f .word) (length (literalItems (literalTold b (f .kind) (f .len) (f .word)))) → f .kind ≡ 5 → Within (f .word) (f .len)
   literal-within h e =
       subst (Within (f .word)) (ap (λ (k : ℕ). length (literalItems (literalTold b k (f .len) (f .word)))) e ∙ length-tabulate (f .word) (f .len) (itemTold b)) h
 
-  pooled-as : (k : ℕ) → f .code ≡ k → PooledTold (f .word) (opIn b f) → PooledTold (f .word) (pickOr Stop (operationsTold b f) k)
-  pooled-as k e h = subst (λ (j : ℕ). PooledTold (f .word) (pickOr Stop (operationsTold b f) j)) e h
-
-  pub ldc-within : f .code ≡ 3 → PooledTold (f .word) (opIn b f) → f .kind ≡ 5 → Within (f .word) (f .len)
-  ldc-within e h = literal-within (pooled-as 3 e h)
-
-  pub stc-within : f .code ≡ 9 → PooledTold (f .word) (opIn b f) → f .kind ≡ 5 → Within (f .word) (f .len)
-  stc-within e h = literal-within (pooled-as 9 e h)
-
-  pub fn-within : f .code ≡ 16 → PooledTold (f .word) (opIn b f) → Within (f .word) (f .len)
-  fn-within e h =
-      subst (Within (f .word)) (length-map (tabulate (f .word) (f .len) (paramAt b)) Text ∙ length-tabulate (f .word) (f .len) (paramAt b)) (pooled-as 16 e h)
+  pub fn-within : PooledTold (f .word) (Fn (f .a) (tabulate (f .word) (f .len) (paramAt b))) → Within (f .word) (f .len)
+  fn-within h = subst (Within (f .word)) (length-map (tabulate (f .word) (f .len) (paramAt b)) Text ∙ length-tabulate (f .word) (f .len) (paramAt b)) h
 
 -- ---- the line of an instruction
 

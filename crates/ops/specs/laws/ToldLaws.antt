@@ -24,6 +24,7 @@ use Rattle.opc.specs.Record.{Fields, binKinds, pick, literalItems, itemsOf, reg
 use Rattle.opc.specs.inner.Fetch.{pickOr, recordAt}
 pub use Rattle.opc.specs.laws.Fetched.{Misses}
 use Rattle.opc.specs.laws.Fetched.{items-law, items-get, some-elim, when-elim, with-elim, guarded}
+use Rattle.records.proofs.Missed.{Rest, misses}
 use Rattle.tables.specs.Tables.{Program, labelAt, functionAt}
 pub use Rattle.tables.specs.laws.ProgramLaws.{length-tabulate}
 use Rattle.tables.specs.ProgramBytes.{indexWord, decodeCode, labelBytes, functionBytes, tablesOk, decodeProgram}
@@ -41,9 +42,9 @@ missed d [] i (suc j) k e h = refl
 missed d (a ∷ l) i zero k e h = absurd (h .0 (e ∙ add-zero i))
 missed d (a ∷ l) i (suc j) k e h = missed d l (suc i) j k (omega arith) (h .1)
 
-pub last-picked : {A : Type 0} (d : A) (l : List A) (k : ℕ) → Misses l 1 k → pickOr d (l ++ (d ∷ [])) k ≡ d
+pub last-picked : {A : Type 0} (d : A) (l : List A) (k : ℕ) → Rest l 1 k (Unit {0}) → pickOr d (l ++ (d ∷ [])) k ≡ d
 last-picked d l zero h = refl
-last-picked d l (suc k) h = missed d l 1 k (suc k) (omega arith) h
+last-picked d l (suc k) h = missed d l 1 k (suc k) (omega arith) (misses l 1 (suc k) h)
 
 pick-or : {A : Type 0} (d : A) (l : List A) (k : ℕ) {a : A} → pick l k ≡ some a → pickOr d l k ≡ a
 pick-or d l zero e = let z : _≡_ {A = ℕ} 0 1 = cc in absurd (omega arith)

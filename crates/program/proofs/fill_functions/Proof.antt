@@ -26,19 +26,21 @@ cast-mark c = omega (arith, c .shared-slice-known3 .given (16 * c .before .befor
 
 mark-requires : tie.Need-mark-requires Inv-loop μ-loop
 mark-requires c κs =
-    let a = c .before .before .before .before .before .before .before .args in
+    let s : tie.Start Inv-loop μ-loop = search in
+    let a = s .args in
     let l = c .before .before .before .before .loop in
     let b = a .program .now in
-    let k = scan-at (recordOk b) (a .n) 0 (c .before .before .before .before .before .before .before .pre .2) (l .i) (omega arith) (omega arith) in
+    let k = scan-at (recordOk b) (a .n) 0 (s .pre .2) (l .i) (omega arith) (omega arith) in
     (omega arith, λ q. omega (arith, l .inv .1 .sized, byte-of b (16 * l .i) 4 (omega arith), name-small b (l .i) k (sym (first-byte b (16 * l .i)) ∙ eqb-true _ 16 q)))
 
 loop-again : tie.Need-loop-again Inv-loop μ-loop
 loop-again c =
-    let a = c .before .before .before .before .before .before .before .before .before .before .args in
-    let l = c .before .before .before .before .before .before .before .loop in
+    let at-loop : tie.At-loop Inv-loop μ-loop = search in let s : tie.Start Inv-loop μ-loop = search in
+    let a = s .args in
+    let l = at-loop .loop in
     let b = a .program .now in
     let at = 16 * l .i in
-    let k = scan-at (recordOk b) (a .n) 0 (c .before .before .before .before .before .before .before .before .before .before .pre .2) (l .i) (omega arith) (omega arith) in (
+    let k = scan-at (recordOk b) (a .n) 0 (s .pre .2) (l .i) (omega arith) (omega arith) in (
       omega arith,
       fill-turn (isFn b) (nameOf b) 64 (a .n) (a .t .now) (l .i) (l .t) (eqb (getD b at 0) 16) (getD b (at + 4) 0) (c .before .before .before .before .before .before .loop-test .taken) (l .inv .1)
           (ap (λ (x : ℕ). eqb x 16) (first-byte b at)) (byte-of b at 4 (omega arith)) (λ q. omega (arith, byte-of b at 4 (omega arith), name-small b (l .i) k (sym (first-byte b at) ∙ eqb-true (getD b at 0) 16 q)))

@@ -18,14 +18,14 @@ abbrev μ-loop : tie.MeasureT-loop
 
 loop-holds : tie.Need-loop-holds Inv-loop μ-loop
 loop-holds c =
-    let s = c .before .before .before .before .before .before .before in
+    let s : tie.Start Inv-loop μ-loop = search in
     let a = s .args in
     let b = a .program .now in
     (omega arith, c .label .ensures, fill-first (enters b) (lblOf b) 1024 (a .n) (c .before .before .before .mark .last .0) (mark-length (a .t .now) (ltb 0 (a .n)) 0 0 (c .before .before .before .mark .ensures) ∙ s .pre .3))
 
 mark-requires-2 : tie.Need-mark-requires-2 Inv-loop μ-loop
 mark-requires-2 c κs =
-    let s = c .before .before .before .before .before .before .before .before .before .before .before in
+    let s : tie.Start Inv-loop μ-loop = search in
     let a = s .args in
     let l = c .before .before .before .loop in
     let b = a .program .now in
@@ -34,29 +34,32 @@ mark-requires-2 c κs =
 
 loop-again : tie.Need-loop-again Inv-loop μ-loop
 loop-again c =
-    let s = c .before .before .before .before .before .before .before .before .before .before .before .before .before .before in
+    let at-loop : tie.At-loop Inv-loop μ-loop = search in let at-mark : tie.After-mark Inv-loop μ-loop = search in
+    let s : tie.Start Inv-loop μ-loop = search in
     let a = s .args in
-    let l = c .before .before .before .before .before .before .loop in
+    let l = at-loop .loop in
     let b = a .program .now in
     let new = c .before .before .before .before .label2 in
     let k = scan-at (recordOk b) (a .n) 0 (s .pre .2) (l .i) (omega arith) (omega arith) in
     let e : l .i ≡ l .i + 1 - 1 = omega arith in (
       omega arith,
       new .ensures ∙ ap (lblOf b) e,
-      fill-turn (enters b) (lblOf b) 1024 (a .n) (c .before .before .before .before .before .before .before .before .before .before .mark .last .0) (l .i) (l .t) (not (eqb (new .result) (l .was))) (new .result) (c .before .before .before .before .before .loop-test .taken) (l .inv .2)
+      fill-turn (enters b) (lblOf b) 1024 (a .n) (at-mark .mark .last .0) (l .i) (l .t) (not (eqb (new .result) (l .was))) (new .result) (c .before .before .before .before .before .loop-test .taken) (l .inv .2)
           (ap₂ (λ (x y : ℕ). not (eqb x y)) (new .ensures) (l .inv .1)) (new .ensures) (λ _. omega (arith, new .ensures, label-small b (l .i) k)) (c .before .before .mark2 .ensures),
     )
 
 same-length : tie.Need-same-length Inv-loop μ-loop
-same-length c = c .before .loop .inv .2 .sized ∙ sym (c .before .before .before .before .before .before .before .before .before .pre .3)
+same-length c =
+    let s : tie.Start Inv-loop μ-loop = search in
+    c .before .loop .inv .2 .sized ∙ sym (s .pre .3)
 
 returns : tie.Need-returns Inv-loop μ-loop
 returns c =
-    let s = c .before .before .before .before .before .before .before .before .before in
+    let at-mark : tie.After-mark Inv-loop μ-loop = search in let s : tie.Start Inv-loop μ-loop = search in
     let a = s .args in
     let l = c .before .loop in
     let b = a .program .now in
-    let m = c .before .before .before .before .before .mark in (
+    let m = at-mark .mark in (
       l .inv .2 .sized,
       λ x h.
           fill-end (enters b) (lblOf b) 1024 (a .n) (m .last .0) (l .i) (l .t) (c .loop-test .left) (l .inv .2) x h

@@ -10,7 +10,7 @@ use Rattle.program.proofs.functions_ok.Tie as tie
 
 same-table-requires : tie.Need-same-table-requires
 same-table-requires c κs =
-    let s = c .before .before .before .before .before in
+    let s : tie.Start = search in
     let b = s .args .program .now in
     let f = c .before .before .fill-functions in (
       omega (arith, f .ensures .0),
@@ -21,7 +21,8 @@ same-table-requires c κs =
 
 returns : tie.Need-returns
 returns c =
-    let a = c .before .before .before .before .before .before .args in
+    let s : tie.Start = search in
+    let a = s .args in
     let b = a .program .now in
     let f = c .before .before .before .fill-functions in
     table-made b 34816 64 (f .last .1 .1 .0) (functionEntry b (a .n)) (c .same-table .ensures) (f .ensures .0)

@@ -12,7 +12,7 @@ use Rattle.program.proofs.labels_ok.Tie as tie
 
 same-table-requires : tie.Need-same-table-requires
 same-table-requires c κs =
-    let s = c .before .before .before .before .before in
+    let s : tie.Start = search in
     let b = s .args .program .now in
     let f = c .before .before .fill-labels in (
       omega (arith, f .ensures .0),
@@ -23,7 +23,8 @@ same-table-requires c κs =
 
 returns : tie.Need-returns
 returns c =
-    let a = c .before .before .before .before .before .before .args in
+    let s : tie.Start = search in
+    let a = s .args in
     let b = a .program .now in
     let f = c .before .before .before .fill-labels in
     table-made b 32768 1024 (f .last .1 .1 .0) (labelEntry b (a .n)) (c .same-table .ensures) (f .ensures .0)

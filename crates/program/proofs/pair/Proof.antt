@@ -6,7 +6,7 @@ use Rattle.program.proofs.pair.Tie as tie
 
 returns : tie.Need-returns
 returns c =
-    let s = c .before .before .before .before .before in
+    let s : tie.Start = search in
     let v = c .before .before .wide .ensures in
     let w = c .wide2 .ensures in
     let e = beValue-two (s .args .program .now) (s .args .at) (s .pre) in

@@ -22,11 +22,13 @@ loop-holds : tie.Need-loop-holds Inv-loop μ-loop
 loop-holds c = let a = c .before .before .args in (omega arith, scan-first _ (length (a .t .now)))
 
 sub-ok : tie.Need-sub-ok Inv-loop μ-loop
-sub-ok c = c .before .before .before .before .before .before .before .pre .1 (c .before .before .before .before .loop .l) (c .before .before .before .loop-test .taken)
+sub-ok c =
+    let s : tie.Start Inv-loop μ-loop = search in
+    s .pre .1 (c .before .before .before .before .loop .l) (c .before .before .before .loop-test .taken)
 
 loop-again : tie.Need-loop-again Inv-loop μ-loop
 loop-again c =
-    let s = c .before .before .before .before .before .before .before in
+    let s : tie.Start Inv-loop μ-loop = search in
     let a = s .args in
     let l = c .before .before .before .before .loop in
     let h = c .before .before .before .loop-test .taken in

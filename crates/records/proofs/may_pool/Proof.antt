@@ -1,4 +1,3 @@
-use mathlib.Core.Path.{_≡_}
 use borrow.Author.Tests.{ne-eqb}
 use Rattle.records.proofs.may_pool.Statement.{statement}
 use Rattle.records.proofs.may_pool.Tie as tie
@@ -8,6 +7,5 @@ returns-4 c = rw (ne-eqb _ _ (c .match .rest .0 .0 .1), ne-eqb _ _ (c .match .re
 
 pub may-pool-spec : {M : Type 1} → statement M
 may-pool-spec =
-    tie.close (tie.spec (λ c. let e : c .before .args .code ≡ 3 = c .match .keys1 in rw e)
-    (λ c. let e : c .before .args .code ≡ 9 = c .match .keys2 in rw e)
-    (λ c. let e : c .before .args .code ≡ 16 = c .match .keys3 in rw e) returns-4)
+    tie.close (tie.spec (λ c. rw (c .match .keys1)) (λ c. rw (c .match .keys2))
+    (λ c. rw (c .match .keys3)) returns-4)

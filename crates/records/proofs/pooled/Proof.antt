@@ -1,10 +1,11 @@
-use mathlib.Core.Path.{refl, sym, ap, _∙_}
+use mathlib.Core.Path.{sym, ap, _∙_}
 use Prim.Native.Nat.{ℕ, _*_}
+use native.Mathlib.Nat.{add-zero}
 use mathlib.Core.Bool.{_||_}
 use lib.Dec.{eqb}
 use Rattle.records.specs.inner.Fits.{isLiteral}
 use Rattle.records.proofs.Places.{first-byte}
-use Rattle.records.proofs.PoolSteps.{pooled-none, none-pooled}
+use Rattle.records.proofs.PoolSteps.{none-pooled}
 use Rattle.opc.specs.inner.Fetch.{recordAt}
 use borrow.Author.Needs.{needs}
 use Rattle.records.proofs.pooled.Statement.{statement}
@@ -16,7 +17,7 @@ returns-2 c =
     let b = a .program .now in
     let f = recordAt b (a .i) in
     let n = none-pooled (f .code) (f .kind) (ap (λ (x : ℕ). isLiteral x || eqb x 16) (sym (first-byte b (16 * a .i))) ∙ sym (c .before .may-pool .ensures) ∙ c .if1 .left) in
-    pooled-none b f (a .next) (n .0) (n .1) refl
+    rw (n .0, n .1) (sym (add-zero _))
 
 pub pooled-spec : {M : Type 1} → statement M
 pooled-spec =

@@ -1,4 +1,3 @@
-use mathlib.Core.Path.{_≡_}
 use borrow.Author.Tests.{ne-eqb}
 use Rattle.records.proofs.single_mask.Statement.{statement}
 use Rattle.records.proofs.single_mask.Tie as tie
@@ -7,4 +6,4 @@ returns-3 : tie.Need-returns-3
 returns-3 c = rw (ne-eqb _ _ (c .match .rest .0 .1), ne-eqb _ _ (c .match .rest .1))
 
 pub single-mask-spec : {M : Type 1} → statement M
-single-mask-spec = tie.close (tie.spec (λ c. let e : c .before .args .kind ≡ 2 = c .match .keys1 in rw e) (λ c. let e : c .before .args .kind ≡ 3 = c .match .keys2 in rw e) returns-3)
+single-mask-spec = tie.close (tie.spec (λ c. rw (c .match .keys1)) (λ c. rw (c .match .keys2)) returns-3)

@@ -8,7 +8,7 @@ use Rattle.sifv.proofs.box_ok.Tie as tie
 
 returns : tie.Need-returns
 returns c =
-    let p = c .before .before .before .before .before in
+    let p : tie.Start = search in
     let s = p .args in
     box-tests (s .s .now) (s .at) (bytes-of (s .s .now) (λ i. omega (arith, c .before .before .before .before .shared-slice-known .given i))) (p .pre .0) (s .n) (p .pre .1)
     (c .before .all-zero3 .ensures) (c .items-ok .ensures) (c .before .before .before .all-zero .ensures) (c .before .before .all-zero2 .ensures)

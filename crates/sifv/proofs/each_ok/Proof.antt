@@ -19,8 +19,9 @@ abbrev μ-loop : tie.MeasureT-loop
 
 loop-again : tie.Need-loop-again Inv-loop μ-loop
 loop-again c =
-    let s = c .before .before .before .before .before .before .before .args in
-    let l = c .before .before .before .before .before .loop in
+    let at-loop : tie.At-loop Inv-loop μ-loop = search in let s : tie.Start Inv-loop μ-loop = search in
+    let s = s .args in
+    let l = at-loop .loop in
     let h = c .before .before .before .before .loop-test .taken in
     let k = c .before .before .wide .ensures .0 ∙ sym (getD-part (s .s .now) (s .at) 256 (16 + l .i) 0 (omega arith)) in
     let w = c .before .get-u64 .ensures ∙ ap beValue (sym (part-part (s .s .now) (s .at) 256 (40 + l .i * 8) 8 (omega arith))) in

@@ -12,22 +12,34 @@ add-t5 : tie.Need-add-t5
 add-t5 c = omega (arith, item-below (c .before .args .s .now) (c .before .args .at) (c .before .args .i) (c .before .pre .0) (c .before .pre .1) (c .before .pre .2))
 
 shared-slice-read-t7 : tie.Need-shared-slice-read-t7
-shared-slice-read-t7 c = omega (arith, item-below (c .before .before .args .s .now) (c .before .before .args .at) (c .before .before .args .i) (c .before .before .pre .0) (c .before .before .pre .1) (c .before .before .pre .2))
+shared-slice-read-t7 c =
+    let s : tie.Start = search in
+    omega (arith, item-below (s .args .s .now) (s .args .at) (s .args .i) (s .pre .0) (s .pre .1) (s .pre .2))
 
 mul-get-u64 : tie.Need-mul-get-u64
-mul-get-u64 c = omega (arith, item-below (c .before .before .args .s .now) (c .before .before .args .at) (c .before .before .args .i) (c .before .before .pre .0) (c .before .before .pre .1) (c .before .before .pre .2))
+mul-get-u64 c =
+    let s : tie.Start = search in
+    omega (arith, item-below (s .args .s .now) (s .args .at) (s .args .i) (s .pre .0) (s .pre .1) (s .pre .2))
 
 add-get-u64 : tie.Need-add-get-u64
-add-get-u64 c = omega (arith, item-below (c .before .before .args .s .now) (c .before .before .args .at) (c .before .before .args .i) (c .before .before .pre .0) (c .before .before .pre .1) (c .before .before .pre .2))
+add-get-u64 c =
+    let s : tie.Start = search in
+    omega (arith, item-below (s .args .s .now) (s .args .at) (s .args .i) (s .pre .0) (s .pre .1) (s .pre .2))
 
 add-get-u64-2 : tie.Need-add-get-u64-2
-add-get-u64-2 c = omega (arith, item-below (c .before .before .args .s .now) (c .before .before .args .at) (c .before .before .args .i) (c .before .before .pre .0) (c .before .before .pre .1) (c .before .before .pre .2))
+add-get-u64-2 c =
+    let s : tie.Start = search in
+    omega (arith, item-below (s .args .s .now) (s .args .at) (s .args .i) (s .pre .0) (s .pre .1) (s .pre .2))
 
 get-u64-requires : tie.Need-get-u64-requires
-get-u64-requires c κs = omega (arith, item-below (c .before .before .args .s .now) (c .before .before .args .at) (c .before .before .args .i) (c .before .before .pre .0) (c .before .before .pre .1) (c .before .before .pre .2))
+get-u64-requires c κs =
+    let s : tie.Start = search in
+    omega (arith, item-below (s .args .s .now) (s .args .at) (s .args .i) (s .pre .0) (s .pre .1) (s .pre .2))
 
 returns : tie.Need-returns
-returns c = item-law (c .before .before .before .args .s .now) (c .before .before .before .args .at) (c .before .before .before .args .i) (c .before .before .before .pre .0) (c .before .before .before .pre .1) (c .before .before .before .pre .2) refl (c .get-u64 .ensures)
+returns c =
+    let s : tie.Start = search in
+    item-law (s .args .s .now) (s .args .at) (s .args .i) (s .pre .0) (s .pre .1) (s .pre .2) refl (c .get-u64 .ensures)
 
 pub item-spec : {M : Type 1} → statement M
 item-spec =

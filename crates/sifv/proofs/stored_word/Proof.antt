@@ -14,7 +14,9 @@ returns-2 : tie.Need-returns-2
 returns-2 c = ap (λ (k : ℕ). wordOf (singleOf k (c .before .before .args .word))) (sym (c .if2 .taken))
 
 returns-3 : tie.Need-returns-3
-returns-3 c = word-single (c .before .before .args .kind) (c .before .before .args .word) (c .before .before .pre .0) (c .before .before .pre .1) (c .before .if1 .left) (c .if2 .left) (c .before .before .pre .2)
+returns-3 c =
+    let s : tie.Start = search in
+    word-single (s .args .kind) (s .args .word) (s .pre .0) (s .pre .1) (c .before .if1 .left) (c .if2 .left) (s .pre .2)
 
 pub stored-word-spec : {M : Type 1} → statement M
 stored-word-spec = tie.close (tie.spec (λ c κs. search needs) returns returns-2 returns-3)

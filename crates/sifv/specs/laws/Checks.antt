@@ -20,7 +20,7 @@ use Rattle.sifv.specs.inner.Seen.{boxBytes, keysOk, oneOk, arrOk, tabOk}
 use Rattle.sifv.specs.laws.Laws.{length-singles, length-entries, decode-empty, decode-single, decode-arr, decode-tab, decode-other}
 use Rattle.lent.specs.Lists.{zeros}
 
--- ---- turns of the checks: the answer of all is the answer so far and that of the rest
+-- ---- one pass of a check's loop: the answer of all is the answer so far and that of the rest
 
 pub keys-turn : (ks : List ℕ) (i next k : ℕ) (ok : Bool) {r : Bool} → i < length ks → k ≡ getD ks i 0 → keysOk 0 ks ≡ (ok && keysOk next (drop i ks)) → r ≡ (ok && (leb next k && ltb k 64))
     → keysOk 0 ks ≡ (r && keysOk (k + 1) (drop (i + 1) ks))

@@ -7,9 +7,9 @@ use native.Mathlib.Numerals.{add-one}
 use native.Mathlib.Omega.{arith}
 use lib.ListN.{length, getD, take, drop, set, length-append}
 use lib.Seq.{drop-drop, getD-drop}
-use Rattle.lent.specs.Bytes.{beValue, beBytes, part, splice, concat, Wide, none, more}
+use Rattle.lent.specs.Bytes.{beValue, beBytes, part, splice, concat, none, more}
 use Rattle.lent.specs.laws.Parts.{length-part, length-splice, getD-part, part-part, part-splice-around, splice-around, splice-over, splice-one, splice-append-left, splice-append-right}
-use Rattle.lent.specs.laws.Slots.{length-concat, splice-concat, map-set}
+use Rattle.lent.specs.laws.Slots.{length-concat, splice-concat, map-set, Wide}
 use Rattle.sifv.specs.Value.{Single}
 use Rattle.sifv.specs.Slot.{singleKind, wordOf, wordBytes, singleOf, singlesOf, contents}
 use Rattle.sifv.specs.inner.Seen.{shown, slotItem, setItem, boxBytes}

@@ -18,11 +18,13 @@ use Rattle.sifv.specs.Value.{Single, Num, Str, Bl, Null, Entry, entry, V
 use Rattle.sifv.specs.Slot.{singleKind, wordOf, singleOf, wordBytes, slotBytes, key, value, encodeSlot, singlesOf, entriesOf, contents, decodeSlot, singleOk, singlesOk, entriesOk, valueOk, slotOk}
 use Rattle.sifv.specs.laws.Layout.{and-left, and-right, and-both, Sized, end, field, field-at, length-joined, length-pad}
 use Rattle.lent.specs.Lists.{zeros, pad}
-use Rattle.sifv.specs.Limits.{SingleFits, Stored, ValueFits}
-
--- ---- numbers that fit in 64 bits
+use Rattle.sifv.specs.Limits.{SingleFits, ValueFits}
 
 -- ---- single values
+
+-- what may be stored and fits
+abbrev pub Stored : Single → Type 0
+Stored s = (singleOk s ≡ true) × SingleFits s
 
 pub word-lt : (s : Single) → Stored s → wordOf s < 2 ^ 64
 word-lt (Num x) h = toBits-lt binary64 x (h .1)

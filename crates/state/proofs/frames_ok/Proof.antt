@@ -18,8 +18,9 @@ abbrev μ-loop : tie.MeasureT-loop
 
 loop-again : tie.Need-loop-again Inv-loop μ-loop
 loop-again c =
+    let s : tie.Start Inv-loop μ-loop = search in
     let l = c .before .before .before .before .loop in
-    let r = c .before .before .before .before .before .before .args in (
+    let r = s .args in (
       omega arith,
       scan-turn (frameTest (r .state .now) (r .calls) (r .n)) (l .i) (l .ok) (c .before .frame-ok .result && eqb (c .get-u162 .result) 0) (l .inv .1)
           (ap₂ (λ (x : Bool) (y : ℕ). x && eqb y 0) (c .before .frame-ok .ensures ∙ ap (λ (p : ℕ). frameOk (ltb (l .i) (r .calls)) p (r .n)) (c .before .before .get-u16 .ensures .0)) (c .get-u162 .ensures .0)) refl,

@@ -18,10 +18,13 @@ shared-slice-read-held c = omega (arith, c .before .before .loop .inv .few, c .b
 
 add-m : tie.Need-add-m Inv-loop μ-loop
 add-m c =
-    omega (arith, marking-room (c .before .before .before .before .before .args .state .now) (c .before .before .before .loop .m) (c .before .before .before .loop .x) (c .before .before .loop-test .taken) (c .before .before .before .loop .inv), c .held .ensures .1)
+    let at-loop : tie.At-loop Inv-loop μ-loop = search in let s : tie.Start Inv-loop μ-loop = search in
+    omega (arith, marking-room (s .args .state .now) (at-loop .loop .m) (at-loop .loop .x) (c .before .before .loop-test .taken) (at-loop .loop .inv), c .held .ensures .1)
 
 loop-again : tie.Need-loop-again Inv-loop μ-loop
-loop-again c = marking-turn (c .before .before .before .before .before .args .state .now) (c .before .before .before .loop .m) (c .before .before .before .loop .x) (c .held .result) (c .before .before .loop-test .taken) (c .before .before .before .loop .inv) (c .held .ensures .0) (c .held .ensures .1)
+loop-again c =
+    let at-loop : tie.At-loop Inv-loop μ-loop = search in let s : tie.Start Inv-loop μ-loop = search in
+    marking-turn (s .args .state .now) (at-loop .loop .m) (at-loop .loop .x) (c .held .result) (c .before .before .loop-test .taken) (at-loop .loop .inv) (c .held .ensures .0) (c .held .ensures .1)
 
 returns : tie.Need-returns Inv-loop μ-loop
 returns c = marking-end (c .before .before .before .args .state .now) (c .before .loop .m) (c .before .loop .x) (c .loop-test .left) (c .before .loop .inv)

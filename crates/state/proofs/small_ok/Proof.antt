@@ -10,7 +10,8 @@ use Rattle.state.proofs.small_ok.Tie as tie
 
 returns : tie.Need-returns
 returns c =
-    let n = c .before .before .before .before .before .before .args .n in
+    let s : tie.Start = search in
+    let n = s .args .n in
     ap₂ (λ (x : Loc) (y : Bool). leb (x .depth) 24 && (leb (x .calls) 24 && y)) (c .before .before .before .before .loc-of .ensures)
     (ap₂ (λ (x : ℕ) (y : Bool). leb x n && y) (c .before .get-u16 .ensures .0) (c .all-zero .ensures))
 

@@ -16,8 +16,9 @@ abbrev μ-loop : tie.MeasureT-loop
 
 loop-again : tie.Need-loop-again Inv-loop μ-loop
 loop-again c =
+    let s : tie.Start Inv-loop μ-loop = search in
     let l = c .before .before .before .loop in
-    let r = c .before .before .before .before .before .args in
+    let r = s .args in
     (omega arith, scan-turn (stackTest (r .state .now) (r .depth)) (l .i) (l .ok) (c .place-ok .result) (l .inv .1) (c .place-ok .ensures) refl)
 
 returns : tie.Need-returns Inv-loop μ-loop

@@ -8,16 +8,21 @@ use Rattle.state.proofs.start.Tie as tie
 use Rattle.execute.specs.inner.ProgramView.{programIn}
 
 put-u16-requires : tie.Need-put-u16-requires
-put-u16-requires c κs = omega (arith, c .before .before .before .before .copy .kept .0, c .before .before .before .before .before .before .before .before .before .clear .kept .0, c .before .before .before .before .before .before .before .before .before .before .before .before .before .pre .1)
+put-u16-requires c κs =
+    let at-clear : tie.After-clear = search in let s : tie.Start = search in
+    omega (arith, c .before .before .before .before .copy .kept .0, at-clear .clear .kept .0, s .pre .1)
 
 same-length : tie.Need-same-length
-same-length c = c .before .before .put-u16 .kept .0 ∙ c .before .before .before .before .before .before .before .copy .kept .0 ∙ c .before .before .before .before .before .before .before .before .before .before .before .before .clear .kept .0
+same-length c =
+    let at-copy : tie.After-copy = search in let at-clear : tie.After-clear = search in
+    c .before .before .put-u16 .kept .0 ∙ at-copy .copy .kept .0 ∙ at-clear .clear .kept .0
 
 returns : tie.Need-returns
 returns c =
-    let a = c .before .before .before .before .before .before .before .before .before .before .before .before .before .before .before .before .args in
-    start-written (a .state .now) (a .program .now) (programIn (a .program .now)) (c .before .before .before .before .before .before .before .before .before .before .before .before .before .before .before .before .pre .1) (c .before .before .before .before .before .before .before .before .before .before .before .before .before .before .before .before .pre .2)
-    (c .before .before .before .before .before .before .before .before .before .before .before .before .clear .ensures) (c .before .before .before .before .before .before .before .copy .ensures) (c .before .before .before .get-u16 .ensures .0) (c .before .before .put-u16 .ensures)
+    let at-copy : tie.After-copy = search in let at-clear : tie.After-clear = search in let s : tie.Start = search in
+    let a = s .args in
+    start-written (a .state .now) (a .program .now) (programIn (a .program .now)) (s .pre .1) (s .pre .2)
+    (at-clear .clear .ensures) (at-copy .copy .ensures) (c .before .before .before .get-u16 .ensures .0) (c .before .before .put-u16 .ensures)
 
 pub start-spec : {M : Type 1} → statement M
 start-spec =

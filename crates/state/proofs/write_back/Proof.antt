@@ -6,9 +6,10 @@ use Rattle.state.proofs.write_back.Tie as tie
 
 returns : tie.Need-returns
 returns c =
-    let s = c .before .before .before .before .before .before .before .before .before .before .before .before .before .before .before .before .before .before .before .before .before .before .before .before in
-    run-written (s .args .state .now) (s .args .p .loc) (s .args .p .count) (s .pre .0) (s .pre .1) (s .pre .2) (c .before .before .before .before .before .before .before .before .before .before .before .before .before .before .before .before .before .before .before .mark-of .ensures)
-    (c .before .before .before .before .before .before .before .before .before .before .before .before .before .before .before .before .before .before .put-u64 .ensures) (c .before .before .before .before .before .before .before .before .before .before .before .before .before .before .put-u642 .ensures) (c .before .before .before .before .before .before .before .before .before .before .put-u16 .ensures) (c .before .before .before .before .before .before .put-u8 .ensures) (c .before .before .put-u82 .ensures)
+    let at-put-u8 : tie.After-put-u8 = search in let at-put-u16 : tie.After-put-u16 = search in let at-put-u642 : tie.After-put-u642 = search in
+    let at-put-u64 : tie.After-put-u64 = search in let at-mark-of : tie.After-mark-of = search in let s : tie.Start = search in
+    run-written (s .args .state .now) (s .args .p .loc) (s .args .p .count) (s .pre .0) (s .pre .1) (s .pre .2) (at-mark-of .mark-of .ensures)
+    (at-put-u64 .put-u64 .ensures) (at-put-u642 .put-u642 .ensures) (at-put-u16 .put-u16 .ensures) (at-put-u8 .put-u8 .ensures) (c .before .before .put-u82 .ensures)
 
 pub write-back-spec : {M : Type 1} → statement M
 write-back-spec =

@@ -1,4 +1,4 @@
--- The check of a state's bytes: the turns of its scans, and that its tests accept exactly the accepted states.
+-- The check of a state's bytes: one pass of each of its loops, and that its tests accept exactly the accepted states.
 use mathlib.Core.Path.{_≡_, refl, sym, ap, ap₂, _∙_, subst}
 use mathlib.Core.Bool.{Bool, true, false, cond, not, _&&_}
 use mathlib.Core.List.{List, _∷_, _++_, reverse}

@@ -11,7 +11,7 @@ use Rattle.tables.proofs.compute.Tie as tie
 
 functions-requires : tie.Need-functions-requires
 functions-requires c κs =
-    let s = c .before .before .before .before .before .before in
+    let s : tie.Start = search in
     let h = s .pre in
     let cs = h .1 .0 in
     let b = s .args .program .now in
@@ -25,10 +25,10 @@ functions-requires c κs =
 
 returns : tie.Need-returns
 returns c cs r =
-    let s = c .before .before .before .before .before .before .before .before .before in
+    let at-label-table : tie.After-label-table = search in let s : tie.Start = search in
     let h = s .pre in
     let b = s .args .program .now in
-    let e = c .before .before .before .before .before .before .label-table .ensures cs r in
+    let e = at-label-table .label-table .ensures cs r in
     c .before .before .functions .ensures cs
     (functions-begun cs (s .args .n) _ (labels-records cs (s .args .n) b _ (h .0 .0) e (h .0 .1) r) (labels-behind cs (s .args .n) b _ (h .0 .0) e ∙ h .0 .3))
     ∙ ap (λ (d : List ℕ). splice d 34816 (functionBytes cs)) e

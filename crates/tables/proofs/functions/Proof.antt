@@ -30,24 +30,27 @@ add-enter c = omega (arith, c .before .before .slice-known2 .given (16 * c .befo
 
 enter-requires : tie.Need-enter-requires Inv-loop μ-loop
 enter-requires c κs =
-    let s = c .before .before .before .before .before .before in
+    let s : tie.Start Inv-loop μ-loop = search in
     let l = c .before .before .before .before .loop in
     (omega (arith, c .before .before .slice-known2 .given (16 * l .i + 4), s .pre .0 .0, l .inv .1), omega arith)
 
 loop-again : tie.Need-loop-again Inv-loop μ-loop
 loop-again c =
-    let s = c .before .before .before .before .before .before .before .before .before in
-    let l = c .before .before .before .before .before .before .before .loop in
+    let at-slice-known2 : tie.After-slice-known2 Inv-loop μ-loop = search in let at-loop : tie.At-loop Inv-loop μ-loop = search in
+    let s : tie.Start Inv-loop μ-loop = search in
+    let l = at-loop .loop in
     let i = c .before .before .before .before .before .before .loop-test .taken in
     let e = c .before .before .enter .ensures in
-    let x = c .before .before .before .before .before .slice-known2 .given (16 * l .i + 4) in (
+    let x = at-slice-known2 .slice-known2 .given (16 * l .i + 4) in (
       omega arith,
       entered-length 34816 (getD (l .program) (16 * l .i + 4) 0) (l .i) (eqb (getD (l .program) (16 * l .i) 0) 16) (l .program) _ (omega (arith, x, s .pre .0 .0, l .inv .1)) e ∙ l .inv .1,
       λ cs h. functions-next (l .inv .2 cs h) i (s .pre .0 .1) (omega (arith, s .pre .0 .0, l .inv .1)) e,
     )
 
 returns : tie.Need-returns Inv-loop μ-loop
-returns c cs h = let s = c .before .before .before in let l = c .before .loop in turned-end (functionsGo (l .i)) (l .inv .2 cs h) (omega arith) (omega (arith, s .pre .0 .0, l .inv .1)) (λ g x. refl)
+returns c cs h =
+    let s : tie.Start Inv-loop μ-loop = search in
+    let l = c .before .loop in turned-end (functionsGo (l .i)) (l .inv .2 cs h) (omega arith) (omega (arith, s .pre .0 .0, l .inv .1)) (λ g x. refl)
 
 pub functions-spec : {M : Type 1} → statement M
 functions-spec =

@@ -6,8 +6,8 @@ use Rattle.tables.proofs.label_table.Tie as tie
 
 labels-requires : tie.Need-labels-requires
 labels-requires c κs =
-    let s = c .before .before .before .before .before .before .before .before .before in
-    let e = c .before .before .before .before .before .put-u16 .ensures in
+    let at-put-u16 : tie.After-put-u16 = search in let s : tie.Start = search in
+    let e = at-put-u16 .put-u16 .ensures in
     let b = s .args .program .now in
     let h = s .pre in (
       (omega (arith, first-length b _ (h .0 .0) e, h .0 .0), h .0 .1),
@@ -16,11 +16,11 @@ labels-requires c κs =
 
 returns : tie.Need-returns
 returns c cs r =
-    let s = c .before .before .before .before .before .before .before .before .before .before .before .before in
-    let e = c .before .before .before .before .before .before .before .before .put-u16 .ensures in
+    let at-put-u16 : tie.After-put-u16 = search in let then1 : tie.Then1 = search in let s : tie.Start = search in
+    let e = at-put-u16 .put-u16 .ensures in
     let b = s .args .program .now in
     let h = s .pre in
-    labels-whole b _ (h .0 .0) e cs (s .args .n) (c .before .before .before .before .get-u16 .result) _ (c .before .before .before .before .before .before .before .before .before .before .if1 .taken) r (c .before .before .before .before .get-u16 .ensures .0)
+    labels-whole b _ (h .0 .0) e cs (s .args .n) (c .before .before .before .before .get-u16 .result) _ (then1 .if1 .taken) r (c .before .before .before .before .get-u16 .ensures .0)
     (c .before .before .labels .ensures cs first (labels-begun b _ (h .0 .0) e cs (s .args .n) (h .0 .1) (h .0 .2) r))
 
 returns-2 : tie.Need-returns-2

@@ -25,21 +25,24 @@ loop-holds c = (omega arith, refl, λ cs f h. turned-start (labelsGo (c .before 
 
 enter-requires : tie.Need-enter-requires Inv-loop μ-loop
 enter-requires c κs =
-    let s = c .before .before .before .before .before .before in
+    let s : tie.Start Inv-loop μ-loop = search in
     let l = c .before .before .before .before .loop in
     (omega (arith, label-small-next (l .inv .2 (s .pre .1 .0) (s .pre .1 .1) (s .pre .1 .2)) (c .before .before .before .loop-test .taken) (c .before .get-u16 .ensures .0), s .pre .0 .0, l .inv .1), omega arith)
 
 loop-again : tie.Need-loop-again Inv-loop μ-loop
 loop-again c =
-    let s = c .before .before .before .before .before .before .before .before .before in
-    let l = c .before .before .before .before .before .before .before .loop in
+    let at-get-u16 : tie.After-get-u16 Inv-loop μ-loop = search in let at-loop : tie.At-loop Inv-loop μ-loop = search in
+    let s : tie.Start Inv-loop μ-loop = search in
+    let l = at-loop .loop in
     let i = c .before .before .before .before .before .before .loop-test .taken in
     let t : (cs : Code) (f : ℕ → Option ℕ) → Begun 32768 1024 cs f (s .args .n) (s .args .program .now) → Turned 32768 1024 (labelsGo (l .was) (l .i)) (λ x. entered cs x (s .args .first) 0 (f x)) (s .args .n) (l .i) (s .args .program .now) (l .program) = l .inv .2 in
-    let x = label-small-next (t (s .pre .1 .0) (s .pre .1 .1) (s .pre .1 .2)) i (c .before .before .before .before .get-u16 .ensures .0) in
-    (omega arith, entered-length 32768 (c .before .before .before .before .get-u16 .result) (l .i) (not (eqb (c .before .before .before .before .get-u16 .result) (l .was))) (l .program) _ (omega (arith, x, s .pre .0 .0, l .inv .1)) (c .before .before .enter .ensures) ∙ l .inv .1, λ cs f h. labels-next (t cs f h) i (s .pre .0 .1) (omega (arith, s .pre .0 .0, l .inv .1)) (c .before .before .before .before .get-u16 .ensures .0) (c .before .before .enter .ensures))
+    let x = label-small-next (t (s .pre .1 .0) (s .pre .1 .1) (s .pre .1 .2)) i (at-get-u16 .get-u16 .ensures .0) in
+    (omega arith, entered-length 32768 (at-get-u16 .get-u16 .result) (l .i) (not (eqb (at-get-u16 .get-u16 .result) (l .was))) (l .program) _ (omega (arith, x, s .pre .0 .0, l .inv .1)) (c .before .before .enter .ensures) ∙ l .inv .1, λ cs f h. labels-next (t cs f h) i (s .pre .0 .1) (omega (arith, s .pre .0 .0, l .inv .1)) (at-get-u16 .get-u16 .ensures .0) (c .before .before .enter .ensures))
 
 returns : tie.Need-returns Inv-loop μ-loop
-returns c cs f h = let s = c .before .before .before in let l = c .before .loop in turned-end (labelsGo (l .was) (l .i)) (l .inv .2 cs f h) (omega arith) (omega (arith, s .pre .0 .0, l .inv .1)) (λ g x. refl)
+returns c cs f h =
+    let s : tie.Start Inv-loop μ-loop = search in
+    let l = c .before .loop in turned-end (labelsGo (l .was) (l .i)) (l .inv .2 cs f h) (omega arith) (omega (arith, s .pre .0 .0, l .inv .1)) (λ g x. refl)
 
 pub labels-spec : {M : Type 1} → statement M
 labels-spec =

@@ -11,9 +11,9 @@ use lib.Dec.{leb}
 use lib.ListN.{length, take, drop, getD, length-append, length-replicate}
 use lib.Seq.{take-at, drop-at, drop-drop}
 use borrow.Author.Tests.{leb-true, le-leb}
-use Rattle.lent.specs.Bytes.{beValue, beBytes, part, sameBytes, concat, Each, none, more, Wide}
+use Rattle.lent.specs.Bytes.{beValue, beBytes, part, sameBytes, concat, Each, none, more}
 use Rattle.lent.specs.laws.Numbers.{beValue-beBytes, length-beBytes}
-use Rattle.lent.specs.laws.Slots.{length-concat, part-concat}
+use Rattle.lent.specs.laws.Slots.{length-concat, part-concat, Wide}
 use Rattle.lent.specs.laws.Same.{same-refl}
 use Rattle.sifv.specs.Value.{Single}
 use Rattle.sifv.specs.laws.Layout.{and-left, and-right, Sized, end, field, field-behind, length-joined, length-pad}

@@ -1,5 +1,5 @@
 -- Laws of lists of texts that are written one by one: items with a separator between, fields of a line, lines.
-use mathlib.Core.Path.{_≡_, refl, sym, ap, ap₂, _∙_, subst}
+use mathlib.Core.Path.{_≡_, refl, sym, ap, ap₂, _∙_}
 use mathlib.Core.List.{List, [], _∷_, _++_, map, append-nil, append-assoc}
 use Prim.Native.Nat.{ℕ, zero, suc, _+_, _≤_}
 use native.Mathlib.Numerals.{add-one}
@@ -8,7 +8,7 @@ use native.Mathlib.Omega.{arith}
 use lib.ListN.{length, length-map}
 use Rattle.text.specs.Text.{ascii, decimal, joined, separator, numberFields, lineOf}
 use Rattle.text.specs.Put.{Put}
-use Rattle.text.specs.laws.PutLaws.{put-none, put-then}
+use Rattle.text.specs.laws.PutLaws.{put-as, put-within, put-then}
 
 -- ---- one item more, at the end
 
@@ -38,11 +38,7 @@ map-end f (a ∷ l) x = ap (λ (t : List (List ℕ)). f a ∷ t) (map-end f l x)
 
 -- ---- the separator before item i
 
-gap-first : (s : List ℕ) (i : ℕ) → i ≡ 0 → [] ≡ separator s i
-gap-first s zero e = refl
-gap-first s (suc i) e = absurd (omega arith)
-
-gap-later : (s : List ℕ) (i : ℕ) → (i ≡ 0 → ⊥) → s ≡ separator s i
+pub gap-later : (s : List ℕ) (i : ℕ) → (i ≡ 0 → ⊥) → s ≡ separator s i
 gap-later s zero n = absurd (n refl)
 gap-later s (suc i) n = refl
 
@@ -58,40 +54,34 @@ row-end t L o m i (suc n) =
 -- ---- written
 
 module _ {out : List ℕ} {at : ℕ} (h : at ≤ length out) where
-  -- three texts
+  -- three texts, four
   pub put-three : {a b d : List ℕ} {out₁ : List ℕ} {r₁ : ℕ} {out₂ : List ℕ} {r₂ : ℕ} {out₃ : List ℕ} {r₃ : ℕ}
       → Put out at a out₁ r₁ → Put out₁ r₁ b out₂ r₂ → Put out₂ r₂ d out₃ r₃ → Put out at (a ++ (b ++ d)) out₃ r₃
-  put-three {a} {b} {d} {out₃ = out₃} {r₃ = r₃} p q r = subst (λ (t : List ℕ). Put out at t out₃ r₃) (append-assoc a b d) (put-then h (put-then h p q) r)
+  put-three p q r = put-then h p (put-then (put-within h p) q r)
 
-  pub gap-none : (s : List ℕ) (i : ℕ) → i ≡ 0 → Put out at (separator s i) out at
-  gap-none s i e = subst (λ (t : List ℕ). Put out at t out at) (gap-first s i e) (put-none out at h)
-
-  pub gap-some : (s : List ℕ) (i : ℕ) {out₁ : List ℕ} {r₁ : ℕ} → (i ≡ 0 → ⊥) → Put out at s out₁ r₁ → Put out at (separator s i) out₁ r₁
-  gap-some s i {out₁} {r₁} n p = subst (λ (t : List ℕ). Put out at t out₁ r₁) (gap-later s i n) p
+  pub put-four : {a b d e : List ℕ} {out₁ : List ℕ} {r₁ : ℕ} {out₂ : List ℕ} {r₂ : ℕ} {out₃ : List ℕ} {r₃ : ℕ} {out₄ : List ℕ} {r₄ : ℕ}
+      → Put out at a out₁ r₁ → Put out₁ r₁ b out₂ r₂ → Put out₂ r₂ d out₃ r₃ → Put out₃ r₃ e out₄ r₄ → Put out at (a ++ (b ++ (d ++ e))) out₄ r₄
+  put-four p q r s = put-three p q (put-then (put-within h (put-then h p q)) r s)
 
   -- a loop's turn: the separator, if there was an item, and the next item
   pub put-item : (s : List ℕ) (l : List (List ℕ)) {i : ℕ} {b : List ℕ} {out₁ : List ℕ} {r₁ : ℕ} {out₂ : List ℕ} {r₂ : ℕ} {out₃ : List ℕ} {r₃ : ℕ} → i ≡ length l
       → Put out at (joined s l) out₁ r₁ → Put out₁ r₁ (separator s i) out₂ r₂ → Put out₂ r₂ b out₃ r₃ → Put out at (joined s (l ++ (b ∷ []))) out₃ r₃
-  put-item s l {i} {b} {out₁} {r₁} {out₂} {r₂} {out₃} {r₃} e p q r =
-      subst (λ (t : List ℕ). Put out at t out₃ r₃)
-      (ap (λ (k : ℕ). joined s l ++ (separator s k ++ b)) e ∙ sym (joined-end s l b)) (put-three p q r)
+  put-item s l {b = b} e p q r = put-as (joined-end s l b ∙ ap (λ (k : ℕ). joined s l ++ (separator s k ++ b)) (sym e)) (put-three p q r)
 
   -- the same of the texts of a list's elements
   pub put-element : {A : Type 0} (f : A → List ℕ) (s : List ℕ) (l l' : List A) (x : A) {i : ℕ} {out₁ : List ℕ} {r₁ : ℕ} {out₂ : List ℕ} {r₂ : ℕ} {out₃ : List ℕ} {r₃ : ℕ}
       → i ≡ length l → l' ≡ l ++ (x ∷ []) → Put out at (joined s (map f l)) out₁ r₁ → Put out₁ r₁ (separator s i) out₂ r₂ → Put out₂ r₂ (f x) out₃ r₃
       → Put out at (joined s (map f l')) out₃ r₃
-  put-element f s l l' x {i} {out₁} {r₁} {out₂} {r₂} {out₃} {r₃} e g p q r =
-      subst (λ (t : List (List ℕ)). Put out at (joined s t) out₃ r₃) (sym (ap (map f) g ∙ map-end f l x))
-      (put-item s (map f l) (e ∙ sym (length-map l f)) p q r)
+  put-element f s l l' x e g p q r = put-as (ap (joined s) (ap (map f) g ∙ map-end f l x)) (put-item s (map f l) (e ∙ sym (length-map l f)) p q r)
 
   -- one field more of a line: the blank and the field
   pub put-field : (a : List ℕ) (l : List (List ℕ)) {b : List ℕ} {out₁ : List ℕ} {r₁ : ℕ} {out₂ : List ℕ} {r₂ : ℕ}
       → Put out at (joined (ascii " ") (a ∷ l)) out₁ r₁ → Put out₁ r₁ (ascii " " ++ b) out₂ r₂ → Put out at (joined (ascii " ") (a ∷ (l ++ (b ∷ [])))) out₂ r₂
-  put-field a l {b} {out₁} {r₁} {out₂} {r₂} p q = subst (λ (t : List ℕ). Put out at t out₂ r₂) (sym (joined-more (ascii " ") a l b)) (put-then h p q)
+  put-field a l {b} p q = put-as (joined-more (ascii " ") a l b) (put-then h p q)
 
   pub put-fields : (a : List ℕ) (l : List (List ℕ)) (ns : List ℕ) {out₁ : List ℕ} {r₁ : ℕ} {out₂ : List ℕ} {r₂ : ℕ}
       → Put out at (joined (ascii " ") (a ∷ l)) out₁ r₁ → Put out₁ r₁ (numberFields ns) out₂ r₂ → Put out at (joined (ascii " ") (a ∷ (l ++ map decimal ns))) out₂ r₂
-  put-fields a l ns {out₁} {r₁} {out₂} {r₂} p q = subst (λ (t : List ℕ). Put out at t out₂ r₂) (sym (joined-fields a l ns)) (put-then h p q)
+  put-fields a l ns p q = put-as (joined-fields a l ns) (put-then h p q)
 
   -- the line's end
   pub put-end : (fs : List (List ℕ)) {out₁ : List ℕ} {r₁ : ℕ} {out₂ : List ℕ} {r₂ : ℕ}
@@ -101,7 +91,4 @@ module _ {out : List ℕ} {at : ℕ} (h : at ≤ length out) where
   -- a loop's turn: one text more of a row
   pub put-turn : (t : ℕ → List ℕ) (L : ℕ → ℕ → List ℕ) → ((i : ℕ) → L i zero ≡ []) → ((i n : ℕ) → L i (suc n) ≡ t i ++ L (suc i) n)
       → (n : ℕ) {out₁ : List ℕ} {r₁ : ℕ} {out₂ : List ℕ} {r₂ : ℕ} → Put out at (L 0 n) out₁ r₁ → Put out₁ r₁ (t n) out₂ r₂ → Put out at (L 0 (n + 1)) out₂ r₂
-  put-turn t L o m n {out₁} {r₁} {out₂} {r₂} p q =
-      subst (λ (x : List ℕ). Put out at x out₂ r₂)
-      (ap (λ (k : ℕ). L 0 n ++ t k) (sym (zero-add n)) ∙ sym (row-end t L o m 0 n) ∙ ap (L 0) (sym (add-one n)))
-      (put-then h p q)
+  put-turn t L o m n p q = put-as (ap (L 0) (add-one n) ∙ row-end t L o m 0 n ∙ ap (λ (k : ℕ). L 0 n ++ t k) (zero-add n)) (put-then h p q)

@@ -19,6 +19,10 @@ take-past [] b n k e = let z : n ≡ k = omega arith in ap (λ (i : ℕ). take i
 take-past (x ∷ a) b zero k e = absurd (omega arith)
 take-past (x ∷ a) b (suc n) k e = ap (λ (l : List ℕ). x ∷ l) (take-past a b n k (omega arith))
 
+-- the same text
+pub put-as : {out : List ℕ} {at : ℕ} {x y : List ℕ} {o : List ℕ} {r : ℕ} → y ≡ x → Put out at x o r → Put out at y o r
+put-as {out} {at} {o = o} {r = r} e p = subst (λ (t : List ℕ). Put out at t o r) (sym e) p
+
 -- nothing
 pub put-none : (out : List ℕ) (at : ℕ) → at ≤ length out → Put out at [] out at
 put-none out at h = record { place = omega arith; bytes = sym (ap (splice out at) (take-all (length out - at) [] (omega arith)) ∙ splice-none out at) }
@@ -69,4 +73,4 @@ put-then {out} {at} {a} {b} {out₁} {r₁} {out₂} {r₂} h p q = by (leb (at 
 -- a byte more of a list
 pub put-next : {out : List ℕ} {at : ℕ} (s : List ℕ) (i : ℕ) {out₁ : List ℕ} {r₁ : ℕ} {out₂ : List ℕ} {r₂ : ℕ} → at ≤ length out → i < length s → Put out at (take i s) out₁ r₁ → Put out₁ r₁ (getD s i 0 ∷ []) out₂ r₂
     → Put out at (take (i + 1) s) out₂ r₂
-put-next {out} {at} s i {out₁} {r₁} {out₂} {r₂} h l p q = subst (λ (t : List ℕ). Put out at t out₂ r₂) (sym (ap (λ (k : ℕ). take k s) (add-one i) ∙ take-suc s i 0 l)) (put-then h p q)
+put-next s i h l p q = put-as (ap (λ (k : ℕ). take k s) (add-one i) ∙ take-suc s i 0 l) (put-then h p q)

@@ -4,7 +4,12 @@ use Rattle.values.proofs.put_entry.Statement.{statement}
 use Rattle.values.proofs.put_entry.Tie as tie
 
 returns : tie.Need-returns
-returns c = let s = c .before .before .before .before .before .before .before .before .before .before .before .before .before .before .before .before .before .before in entry-put (s .pre .0) (s .args .state .now) (s .args .from) (s .args .i) (c .before .before .before .before .before .before .before .before .before .before .before .before .before .before .wide .ensures .0) (s .pre .2) (c .before .before .before .before .before .before .before .before .before .before .before .before .put-decimal .ensures) (c .before .before .before .before .before .before .before .put-all .ensures) (c .before .before .before .get-item .ensures) (c .before .before .put-single .ensures)
+returns c =
+    let s : tie.Start = search in
+    let w : tie.After-wide = search in
+    let d : tie.After-put-decimal = search in
+    let a : tie.After-put-all = search in
+    entry-put (s .pre .0) (s .args .state .now) (s .args .from) (s .args .i) (w .wide .ensures .0) (s .pre .2) (d .put-decimal .ensures) (a .put-all .ensures) (c .before .before .before .get-item .ensures) (c .before .before .put-single .ensures)
 
 pub put-entry-spec : {M : Type 1} → statement M
 put-entry-spec =

@@ -1,5 +1,5 @@
 -- A slot's value as text, by what the slot shows; items and entries one by one.
-use mathlib.Core.Path.{_≡_, refl, sym, ap, ap₂, _∙_, subst}
+use mathlib.Core.Path.{_≡_, refl, sym, ap, ap₂, _∙_}
 use mathlib.Core.Bool.{Bool, true, false}
 use mathlib.Core.List.{List, [], _∷_, _++_, map}
 use mathlib.Core.Option.{Option, none, some}
@@ -21,15 +21,15 @@ use Rattle.sifv.specs.declared.SifVal.{SifVal}
 use Rattle.sifv.specs.declared.SifVal.the-variants.{Empty, Num, Str, Bl, Null, Arr, Tab}
 use Rattle.text.specs.Text.{ascii, decimal, singleText, entryText, joined, valueText, separator}
 use Rattle.text.specs.Put.{Put}
-use Rattle.text.specs.laws.PutLaws.{put-none}
+use Rattle.text.specs.laws.PutLaws.{put-as, put-none}
 use Rattle.text.specs.laws.Joined.{put-three, put-element}
 use Rattle.values.specs.inner.SlotText.{slotText}
 use Rattle.sifv.specs.inner.Forms.{lenIn}
 
 -- ---- what a slot shows
 
-single-shown : (x : Single) → singleText (singleSeen (shown x)) ≡ singleText x
-single-shown x = ap singleText (plain-shown x)
+seen-text : (x : Single) {v : SifVal} → v ≡ shown x → singleText x ≡ singleText (singleSeen v)
+seen-text x e = ap singleText (sym (ap singleSeen e ∙ plain-shown x))
 
 text-none : (o : Option Value) → Empty ≡ seen o → [] ≡ slotText o
 text-none none e = refl
@@ -42,7 +42,7 @@ text-none (some (model.Tab t)) e = absurd (let z = ap kindIn e in omega arith)
 
 text-one : (o : Option Value) (v : SifVal) → v ≡ seen o → 0 < kindIn v → kindIn v ≤ 4 → singleText (singleSeen v) ≡ slotText o
 text-one none v e h g = absurd (let z = ap kindIn e in omega arith)
-text-one (some (One x)) v e h g = ap (λ (w : SifVal). singleText (singleSeen w)) e ∙ single-shown x
+text-one (some (One x)) v e h g = sym (seen-text x e)
 text-one (some (model.Arr l)) v e h g = absurd (let z = ap kindIn e in omega arith)
 text-one (some (model.Tab t)) v e h g = absurd (let z = ap kindIn e in omega arith)
 
@@ -110,7 +110,7 @@ module _ {out : List ℕ} {at : ℕ} (h : at ≤ length out) {out₁ : List ℕ}
       → v ≡ shown (slotItem b i) → Put out₂ r₂ (singleText (singleSeen v)) out₃ r₃ → Put out at (joined (ascii ",") (map singleText (contents (i + 1) b))) out₃ r₃
   items-turn b i g p q e r =
       put-element h singleText (ascii ",") (contents i b) (contents (i + 1) b) (slotItem b i) (sym (length-singles i (part b 16 24) (part b 40 192))) (contents-more i b g) p q
-      (subst (λ (t : List ℕ). Put out₂ r₂ t out₃ r₃) (ap (λ (w : SifVal). singleText (singleSeen w)) e ∙ single-shown (slotItem b i)) r)
+      (put-as (seen-text (slotItem b i) e) r)
 
   pub entries-turn : (b : List ℕ) (i : ℕ) → i < 16 → Put out at (joined (ascii ",") (map entryText (entriesIn i b))) out₁ r₁ → Put out₁ r₁ (separator (ascii ",") i) out₂ r₂
       → Put out₂ r₂ (entryText (entry (getD b (232 + i) 0) (slotItem b i))) out₃ r₃ → Put out at (joined (ascii ",") (map entryText (entriesIn (i + 1) b))) out₃ r₃
@@ -122,23 +122,20 @@ module _ {out : List ℕ} {at : ℕ} (h : at ≤ length out) {out₁ : List ℕ}
   pub entry-put : (s : List ℕ) (from i : ℕ) {k : ℕ} {v : SifVal} → k ≡ getD s (from + (232 + i)) 0 → i < 16 → Put out at (decimal k) out₁ r₁ → Put out₁ r₁ (ascii "=") out₂ r₂
       → v ≡ shown (slotItem (part s from 256) i) → Put out₂ r₂ (singleText (singleSeen v)) out₃ r₃
       → Put out at (entryText (entry (getD (part s from 256) (232 + i) 0) (slotItem (part s from 256) i))) out₃ r₃
-  entry-put s from i {k} {v} e g p q f r =
-      let x = slotItem (part s from 256) i in
-      subst (λ (t : List ℕ). Put out at t out₃ r₃)
-      (ap₂ (λ (j : ℕ) (t : List ℕ). decimal j ++ (ascii "=" ++ t)) (e ∙ sym (getD-part s from 256 (232 + i) 0 (omega arith))) (ap (λ (w : SifVal). singleText (singleSeen w)) f ∙ single-shown x))
-      (put-three h p q r)
+  entry-put s from i e g p q f r =
+      put-as (ap₂ (λ (j : ℕ) (t : List ℕ). decimal j ++ (ascii "=" ++ t)) (getD-part s from 256 (232 + i) 0 (omega arith) ∙ sym e) (seen-text (slotItem (part s from 256) i) f)) (put-three h p q r)
 
 -- what the slot b shows, v, by its variant
 module _ {out : List ℕ} {at : ℕ} (b : List ℕ) {v : SifVal} (e : v ≡ seen (decodeSlot b)) where
   pub value-none : at ≤ length out → v ≡ Empty → Put out at (slotText (decodeSlot b)) out at
-  value-none h f = subst (λ (t : List ℕ). Put out at t out at) (text-none (decodeSlot b) (sym f ∙ e)) (put-none out at h)
+  value-none h f = put-as (sym (text-none (decodeSlot b) (sym f ∙ e))) (put-none out at h)
 
   module _ {out' : List ℕ} {r : ℕ} where
     pub value-one : {w : SifVal} → v ≡ w → 0 < kindIn w → kindIn w ≤ 4 → Put out at (singleText (singleSeen v)) out' r → Put out at (slotText (decodeSlot b)) out' r
-    value-one f h g p = let k = ap kindIn f in subst (λ (t : List ℕ). Put out at t out' r) (text-one (decodeSlot b) v e (omega arith) (omega arith)) p
+    value-one f h g p = let k = ap kindIn f in put-as (sym (text-one (decodeSlot b) v e (omega arith) (omega arith))) p
 
     pub value-arr : {n : ℕ} → v ≡ Arr n → Put out at (valueText (model.Arr (contents n b))) out' r → Put out at (slotText (decodeSlot b)) out' r
-    value-arr {n} f p = subst (λ (o : Option Value). Put out at (slotText o) out' r) (sym (arr-shown b (sym f ∙ e) .1)) p
+    value-arr f p = put-as (ap slotText (arr-shown b (sym f ∙ e) .1)) p
 
     pub value-tab : {n : ℕ} → v ≡ Tab n → Put out at (valueText (model.Tab (entriesIn n b))) out' r → Put out at (slotText (decodeSlot b)) out' r
-    value-tab {n} f p = subst (λ (o : Option Value). Put out at (slotText o) out' r) (sym (tab-shown b (sym f ∙ e) .1)) p
+    value-tab f p = put-as (ap slotText (tab-shown b (sym f ∙ e) .1)) p

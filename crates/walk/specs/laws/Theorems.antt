@@ -9,15 +9,21 @@ use mathlib.Core.Option.{none, some}
 use Rattle.tables.specs.Tables.{Program}
 use Rattle.ast.specs.Tree.{Stmts}
 use Rattle.vm.specs.RuntimeErr.{RuntimeErr}
-use Rattle.vm.specs.Machine.{step, initial, State, started, Stopped, run}
-use Rattle.walk.specs.Walk.{Walked, Fine, Halt, walk, walkCount, walkEnd}
+use Rattle.vm.specs.Machine.{step, initial, State, started, Stopped, Ran, run}
+use Rattle.walk.specs.Walk.{Walked, Fine, Halt, walk, walkCount, walkNames, walkEnd}
 use Rattle.walk.specs.Bound.{bound}
 use Rattle.walk.specs.laws.Bounded.{walk-within, walk-stops-within, plain-code}
 use Rattle.walk.specs.Runs.{needed, runs}
 use Rattle.walk.specs.laws.Simulation.Sound.{program-is, script}
 use Rattle.walk.specs.laws.Simulation.Portions.{Reach, reach, needed-some, needed-least, once, runs-once, beyond, reached, still, answers, run-count}
 use Rattle.lent.specs.Lists.{sum}
-use Rattle.walk.specs.Statements.{Bounds, Ended, Simulates, Lowers, Served}
+use Rattle.walk.specs.Statements.{Bounds, Simulates, Lowers, Served}
+
+-- A run ended as a walk did.
+record Ended (o : Walked (Unit {0})) (r : Ran) : Type 0 where
+  answer : r .answer ≡ walkEnd o
+  count : r .state .count ≡ walkCount o
+  names : r .state .machine .names ≡ walkNames o
 
 -- ---- the simulation
 

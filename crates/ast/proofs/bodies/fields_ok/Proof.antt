@@ -20,24 +20,29 @@ abbrev μ-loop : tie.MeasureT-loop
 
 field-ok-requires : tie.Need-field-ok-requires Inv-loop μ-loop
 field-ok-requires c κs =
-    let p = at-place (c .before .before .before .before .before .before .args .entries .now) (c .before .before .before .before .before .before .args .bodies .now) (c .before .before .before .loop .i) (c .before .before .before .loop .at) (c .before .before .before .loop .inv .1) (omega arith) (omega arith) in
-    (p .known, rw (to-end (c .before .before .before .loop .at)) (p .fits))
+    let at-loop : tie.At-loop Inv-loop μ-loop = search in let s : tie.Start Inv-loop μ-loop = search in
+    let p = at-place (s .args .entries .now) (s .args .bodies .now) (at-loop .loop .i) (at-loop .loop .at) (at-loop .loop .inv .1) (omega arith) (omega arith) in
+    (p .known, rw (to-end (at-loop .loop .at)) (p .fits))
 
 add-at : tie.Need-add-at Inv-loop μ-loop
 add-at c =
-    let p = at-place (c .before .before .before .before .before .before .before .before .args .entries .now) (c .before .before .before .before .before .before .before .before .args .bodies .now) (c .before .before .before .before .before .loop .i) (c .before .before .before .before .before .loop .at) (c .before .before .before .before .before .loop .inv .1) (omega arith) (omega arith) in
+    let at-loop : tie.At-loop Inv-loop μ-loop = search in let s : tie.Start Inv-loop μ-loop = search in
+    let p = at-place (s .args .entries .now) (s .args .bodies .now) (at-loop .loop .i) (at-loop .loop .at) (at-loop .loop .inv .1) (omega arith) (omega arith) in
     omega (arith, p .inside, c .size .ensures .0)
 
 loop-again : tie.Need-loop-again Inv-loop μ-loop
 loop-again c =
-    let l = c .before .before .before .before .before .loop in
-    let a = c .before .before .before .before .before .before .before .before .args in
+    let at-loop : tie.At-loop Inv-loop μ-loop = search in let s : tie.Start Inv-loop μ-loop = search in
+    let l = at-loop .loop in
+    let a = s .args in
     let p = at-place (a .entries .now) (a .bodies .now) (l .i) (l .at) (l .inv .1) (omega arith) (omega arith) in
     rw (c .size .ensures .0, c .before .field-ok .ensures, to-end (l .at))
     (p .inside, p .rest, turn (l .ok) _ _ (l .inv .2) (ap (all (nodeOk (a .texts))) (p .nodes)))
 
 returns : tie.Need-returns Inv-loop μ-loop
-returns c = done (c .before .loop .ok) (c .before .loop .inv .2) (ap (all (nodeOk (c .before .before .before .before .args .texts))) (nodes-end (c .before .before .before .before .args .entries .now) (drop (c .before .loop .at) (c .before .before .before .before .args .bodies .now)) (c .before .loop .i) (omega arith)))
+returns c =
+    let s : tie.Start Inv-loop μ-loop = search in
+    done (c .before .loop .ok) (c .before .loop .inv .2) (ap (all (nodeOk (s .args .texts))) (nodes-end (s .args .entries .now) (drop (c .before .loop .at) (s .args .bodies .now)) (c .before .loop .i) (omega arith)))
 
 pub fields-ok-spec : {M : Type 1} → statement M
 fields-ok-spec =

@@ -18,7 +18,9 @@ abbrev μ-loop : tie.MeasureT-loop
 μ-loop entries total₀ i₀ total i = length entries - i
 
 loop-again : tie.Need-loop-again Inv-loop μ-loop
-loop-again c = (omega arith, omega arith, omega (arith, c .size .ensures .0, sizes-next (c .before .before .before .before .before .args .entries .now) (c .before .before .before .loop .i) (omega arith)))
+loop-again c =
+    let s : tie.Start Inv-loop μ-loop = search in
+    (omega arith, omega arith, omega (arith, c .size .ensures .0, sizes-next (s .args .entries .now) (c .before .before .before .loop .i) (omega arith)))
 
 returns : tie.Need-returns Inv-loop μ-loop
 returns c = (omega (arith, sizes-end (c .before .before .before .args .entries .now) (c .before .loop .i) (omega arith)), omega arith)

@@ -17,7 +17,9 @@ abbrev μ-loop : tie.MeasureT-loop
 μ-loop entries ok₀ i₀ ok i = length entries - i
 
 loop-again : tie.Need-loop-again Inv-loop μ-loop
-loop-again c = rw (c .within .ensures, c .before .wide .ensures .0) (turn (c .before .before .before .before .loop .ok) _ _ (c .before .before .before .before .loop .inv) (ap (all (between 1 23)) (firsts-next (c .before .before .before .before .before .before .args .entries .now) (c .before .before .before .before .loop .i) (omega arith))))
+loop-again c =
+    let at-loop : tie.At-loop Inv-loop μ-loop = search in let s : tie.Start Inv-loop μ-loop = search in
+    rw (c .within .ensures, c .before .wide .ensures .0) (turn (at-loop .loop .ok) _ _ (at-loop .loop .inv) (ap (all (between 1 23)) (firsts-next (s .args .entries .now) (at-loop .loop .i) (omega arith))))
 
 returns : tie.Need-returns Inv-loop μ-loop
 returns c = done (c .before .loop .ok) (c .before .loop .inv) (ap (all (between 1 23)) (firsts-end (c .before .before .before .args .entries .now) (c .before .loop .i) (omega arith)))

@@ -16,7 +16,9 @@ abbrev μ-loop : tie.MeasureT-loop
 μ-loop lengths ok₀ i₀ ok i = length lengths - i
 
 loop-again : tie.Need-loop-again Inv-loop μ-loop
-loop-again c = (omega arith, turn (c .before .before .loop .ok) _ _ (c .before .before .loop .inv .1) (all-next (λ (n : ℕ). leb n 40) (c .before .before .before .args .lengths .now) (c .before .before .loop .i) (omega arith)))
+loop-again c =
+    let at-loop : tie.At-loop Inv-loop μ-loop = search in
+    (omega arith, turn (at-loop .loop .ok) _ _ (at-loop .loop .inv .1) (all-next (λ (n : ℕ). leb n 40) (c .before .before .before .args .lengths .now) (at-loop .loop .i) (omega arith)))
 
 returns : tie.Need-returns Inv-loop μ-loop
 returns c = done (c .before .loop .ok) (c .before .loop .inv .1) (all-end (λ (n : ℕ). leb n 40) (c .before .before .args .lengths .now) (c .before .loop .i) (omega arith))

@@ -33,18 +33,23 @@ node-count-requires c κs =
     accepted (c .before .before .before .before .args .file .now) (sym (c .before .before .read .ensures) ∙ c .before .if1 .left) .long
 
 part-scan-end : tie.Need-part-scan-end
-part-scan-end c = entries-end (c .before .before .before .before .before .args .file .now) (c .before .text-count .ensures .0) (c .node-count .ensures .0) (accepted (c .before .before .before .before .before .args .file .now) (sym (c .before .before .before .read .ensures) ∙ c .before .before .if1 .left))
+part-scan-end c =
+    let s : tie.Start = search in
+    entries-end (s .args .file .now) (c .before .text-count .ensures .0) (c .node-count .ensures .0) (accepted (s .args .file .now) (sym (c .before .before .before .read .ensures) ∙ c .before .before .if1 .left))
 
 scan-requires : tie.Need-scan-requires
-scan-requires c κs = entries-few (c .before .before .before .before .before .before .args .file .now) (c .before .before .text-count .ensures .0) (c .before .node-count .ensures .0) (accepted (c .before .before .before .before .before .before .args .file .now) (sym (c .before .before .before .before .read .ensures) ∙ c .before .before .before .if1 .left))
+scan-requires c κs =
+    let s : tie.Start = search in
+    entries-few (s .args .file .now) (c .before .before .text-count .ensures .0) (c .before .node-count .ensures .0) (accepted (s .args .file .now) (sym (c .before .before .before .before .read .ensures) ∙ c .before .before .before .if1 .left))
 
 returns-2 : tie.Need-returns-2
 returns-2 c =
-    let f = c .before .before .before .before .before .before .before .args .file .now in
-    let a : AreBytes f = each-of f 0 (λ i h. omega (arith, c .before .before .before .before .before .before .shared-slice-known .given i)) in
+    let at-read : tie.After-read = search in let at-shared-slice-known : tie.After-shared-slice-known = search in let s : tie.Start = search in
+    let f = s .args .file .now in
+    let a : AreBytes f = each-of f 0 (λ i h. omega (arith, at-shared-slice-known .shared-slice-known .given i)) in
     c .scan .ensures
     ∙ ap (Rule.scan 0 0) (entries-slice f (c .before .before .before .text-count .ensures .0) (c .before .before .node-count .ensures .0))
-    ∙ plain-file f a (sym (c .before .before .before .before .before .read .ensures) ∙ c .before .before .before .before .if1 .left)
+    ∙ plain-file f a (sym (at-read .read .ensures) ∙ c .before .before .before .before .if1 .left)
 
 pub plain-spec : {M : Type 1} → statement M
 plain-spec =

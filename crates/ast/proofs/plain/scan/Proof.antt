@@ -37,11 +37,13 @@ abbrev μ-loop : tie.MeasureT-loop
 
 loop-again : tie.Need-loop-again Inv-loop μ-loop
 loop-again c =
-    let l = c .before .before .before .before .before .before .before .before .loop in (
+    let at-wide : tie.After-wide Inv-loop μ-loop = search in let at-loop : tie.At-loop Inv-loop μ-loop = search in
+    let s : tie.Start Inv-loop μ-loop = search in
+    let l = at-loop .loop in (
       omega arith,
       omega arith,
-      rw (c .under .ensures, c .before .waits .ensures .0, c .before .before .allowed .ensures, c .before .before .before .wide2 .ensures .0, c .before .before .before .before .before .wide .ensures .0)
-          (turn (l .ok) _ _ (l .inv .2) (scan-next (c .before .before .before .before .before .before .before .before .before .before .args .entries .now) (l .i) (l .above) (l .left) (omega arith))),
+      rw (c .under .ensures, c .before .waits .ensures .0, c .before .before .allowed .ensures, c .before .before .before .wide2 .ensures .0, at-wide .wide .ensures .0)
+          (turn (l .ok) _ _ (l .inv .2) (scan-next (s .args .entries .now) (l .i) (l .above) (l .left) (omega arith))),
     )
 
 returns : tie.Need-returns Inv-loop μ-loop

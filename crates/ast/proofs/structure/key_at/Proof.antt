@@ -14,10 +14,14 @@ returns-3 : tie.Need-returns-3
 returns-3 c = (omega arith, λ ns a. key-other (here a _ _ (c .before .before .before .before .p .given .1)) (omega arith) (c .if2 .taken))
 
 shared-slice-read-wide : tie.Need-shared-slice-read-wide
-shared-slice-read-wide c = key-in (here (c .before .before .before .before .before .before .before .before .before .pre .1) _ _ (c .before .before .before .before .before .p .given .1)) (omega arith) (c .before .if2 .left)
+shared-slice-read-wide c =
+    let at-p : tie.After-p = search in let s : tie.Start = search in
+    key-in (here (s .pre .1) _ _ (at-p .p .given .1)) (omega arith) (c .before .if2 .left)
 
 returns-4 : tie.Need-returns-4
-returns-4 c = rw (c .wide .ensures .0) (key-small (here (c .before .before .before .before .before .before .before .before .before .before .pre .1) _ _ (c .before .before .before .before .before .before .p .given .1)) (omega arith) (c .before .before .if2 .left), λ ns a. key-item (here a _ _ (c .before .before .before .before .before .before .p .given .1)) (omega arith) (c .before .before .if2 .left))
+returns-4 c =
+    let at-p : tie.After-p = search in let s : tie.Start = search in
+    rw (c .wide .ensures .0) (key-small (here (s .pre .1) _ _ (at-p .p .given .1)) (omega arith) (c .before .before .if2 .left), λ ns a. key-item (here a _ _ (at-p .p .given .1)) (omega arith) (c .before .before .if2 .left))
 
 pub key-at-spec : {M : Type 1} → statement M
 key-at-spec =

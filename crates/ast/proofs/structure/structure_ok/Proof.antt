@@ -12,10 +12,14 @@ enum-told : tie.Need-enum-told
 enum-told c = search needs
 
 returns : tie.Need-returns
-returns c = let a = c .before .before .before .before .before .args in sym (parse-pass (nodesFrom (a .entries .now) (a .bodies .now)) ∙ ap allUsedUp (refused (c .before .before .node .ensures) (c .enum-told .given .1)))
+returns c =
+    let s : tie.Start = search in
+    let a = s .args in sym (parse-pass (nodesFrom (a .entries .now) (a .bodies .now)) ∙ ap allUsedUp (refused (c .before .before .node .ensures) (c .enum-told .given .1)))
 
 returns-2 : tie.Need-returns-2
-returns-2 c = let a = c .before .before .before .before .before .before .args in all-nodes (here (c .before .before .before .node .ensures) _ _ (c .before .u .given .1)) ∙ sym (parse-pass (nodesFrom (a .entries .now) (a .bodies .now)))
+returns-2 c =
+    let s : tie.Start = search in
+    let a = s .args in all-nodes (here (c .before .before .before .node .ensures) _ _ (c .before .u .given .1)) ∙ sym (parse-pass (nodesFrom (a .entries .now) (a .bodies .now)))
 
 pub structure-ok-spec : {M : Type 1} → statement M
 structure-ok-spec = tie.close (tie.spec (λ c κs. search needs) (λ c. search needs) enum-told returns returns-2)

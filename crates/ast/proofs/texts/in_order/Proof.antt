@@ -35,30 +35,45 @@ cast-end : tie.Need-cast-end Inv-loop μ-loop
 cast-end c = omega (arith, c .shared-slice-known4 .given (c .before .before .loop .i))
 
 add-end : tie.Need-add-end Inv-loop μ-loop
-add-end c = omega (arith, sum-next (c .before .before .before .before .before .before .before .args .lengths .now) (c .before .before .loop .i) (omega arith))
+add-end c =
+    let s : tie.Start Inv-loop μ-loop = search in
+    omega (arith, sum-next (s .args .lengths .now) (c .before .before .loop .i) (omega arith))
 
 sub-precedes : tie.Need-sub-precedes Inv-loop μ-loop
-sub-precedes c = omega (arith, sum-next (c .before .before .before .before .before .before .before .args .lengths .now) (c .before .before .loop .i) (omega arith))
+sub-precedes c =
+    let s : tie.Start Inv-loop μ-loop = search in
+    omega (arith, sum-next (s .args .lengths .now) (c .before .before .loop .i) (omega arith))
 
 part-precedes-start : tie.Need-part-precedes-start Inv-loop μ-loop
-part-precedes-start c = omega (arith, sum-next (c .before .before .before .before .before .before .before .args .lengths .now) (c .before .before .loop .i) (omega arith))
+part-precedes-start c =
+    let s : tie.Start Inv-loop μ-loop = search in
+    omega (arith, sum-next (s .args .lengths .now) (c .before .before .loop .i) (omega arith))
 
 part-precedes-end : tie.Need-part-precedes-end Inv-loop μ-loop
-part-precedes-end c = omega (arith, sum-next (c .before .before .before .before .before .before .before .args .lengths .now) (c .before .before .loop .i) (omega arith))
+part-precedes-end c =
+    let s : tie.Start Inv-loop μ-loop = search in
+    omega (arith, sum-next (s .args .lengths .now) (c .before .before .loop .i) (omega arith))
 
 sub-precedes-2 : tie.Need-sub-precedes-2 Inv-loop μ-loop
-sub-precedes-2 c = omega (arith, sum-next (c .before .before .before .before .before .before .before .before .args .lengths .now) (c .before .before .before .loop .i) (omega arith))
+sub-precedes-2 c =
+    let s : tie.Start Inv-loop μ-loop = search in
+    omega (arith, sum-next (s .args .lengths .now) (c .before .before .before .loop .i) (omega arith))
 
 part-precedes-start-2 : tie.Need-part-precedes-start-2 Inv-loop μ-loop
-part-precedes-start-2 c = omega (arith, sum-next (c .before .before .before .before .before .before .before .before .args .lengths .now) (c .before .before .before .loop .i) (omega arith))
+part-precedes-start-2 c =
+    let s : tie.Start Inv-loop μ-loop = search in
+    omega (arith, sum-next (s .args .lengths .now) (c .before .before .before .loop .i) (omega arith))
 
 part-precedes-end-2 : tie.Need-part-precedes-end-2 Inv-loop μ-loop
-part-precedes-end-2 c = omega (arith, sum-next (c .before .before .before .before .before .before .before .before .args .lengths .now) (c .before .before .before .loop .i) (omega arith))
+part-precedes-end-2 c =
+    let s : tie.Start Inv-loop μ-loop = search in
+    omega (arith, sum-next (s .args .lengths .now) (c .before .before .before .loop .i) (omega arith))
 
 loop-again : tie.Need-loop-again Inv-loop μ-loop
 loop-again c =
-    let l = c .before .before .before .before .before .loop in
-    let a = c .before .before .before .before .before .before .before .before .before .before .args in (
+    let at-loop : tie.At-loop Inv-loop μ-loop = search in let s : tie.Start Inv-loop μ-loop = search in
+    let l = at-loop .loop in
+    let a = s .args in (
       omega arith,
       omega arith,
       omega (arith, sum-next (a .lengths .now) (l .i) (omega arith)),
@@ -67,7 +82,9 @@ loop-again c =
     )
 
 returns-2 : tie.Need-returns-2 Inv-loop μ-loop
-returns-2 c = done (c .before .loop .ok) (c .before .loop .inv .3) (ascending-end _ (c .before .before .before .before .before .before .args .lengths .now) (c .before .before .before .before .before .before .args .texts .now) (c .before .loop .i) (c .before .loop .at) (omega arith))
+returns-2 c =
+    let s : tie.Start Inv-loop μ-loop = search in
+    done (c .before .loop .ok) (c .before .loop .inv .3) (ascending-end _ (s .args .lengths .now) (s .args .texts .now) (c .before .loop .i) (c .before .loop .at) (omega arith))
 
 pub in-order-spec : {M : Type 1} → statement M
 in-order-spec =

@@ -5,7 +5,9 @@ use Rattle.ast.proofs.texts.is_fortmp.Statement.{statement}
 use Rattle.ast.proofs.texts.is_fortmp.Tie as tie
 
 returns-2 : tie.Need-returns-2
-returns-2 c = six (c .before .before .before .before .before .before .before .args .text .now) (c .before .before .before .before .before .before .if1 .left)
+returns-2 c =
+    let else1 : tie.Else1 = search in let s : tie.Start = search in
+    six (s .args .text .now) (else1 .if1 .left)
 
 pub is-fortmp-spec : {M : Type 1} → statement M
 is-fortmp-spec =

@@ -23,21 +23,30 @@ cast-end : tie.Need-cast-end Inv-loop μ-loop
 cast-end c = omega (arith, c .shared-slice-known3 .given (c .before .before .loop .i))
 
 add-end : tie.Need-add-end Inv-loop μ-loop
-add-end c = omega (arith, sum-next (c .before .before .before .before .before .args .lengths .now) (c .before .before .loop .i) (omega arith))
+add-end c =
+    let s : tie.Start Inv-loop μ-loop = search in
+    omega (arith, sum-next (s .args .lengths .now) (c .before .before .loop .i) (omega arith))
 
 sub-is-fortmp : tie.Need-sub-is-fortmp Inv-loop μ-loop
-sub-is-fortmp c = omega (arith, sum-next (c .before .before .before .before .before .args .lengths .now) (c .before .before .loop .i) (omega arith))
+sub-is-fortmp c =
+    let s : tie.Start Inv-loop μ-loop = search in
+    omega (arith, sum-next (s .args .lengths .now) (c .before .before .loop .i) (omega arith))
 
 part-is-fortmp-start : tie.Need-part-is-fortmp-start Inv-loop μ-loop
-part-is-fortmp-start c = omega (arith, sum-next (c .before .before .before .before .before .args .lengths .now) (c .before .before .loop .i) (omega arith))
+part-is-fortmp-start c =
+    let s : tie.Start Inv-loop μ-loop = search in
+    omega (arith, sum-next (s .args .lengths .now) (c .before .before .loop .i) (omega arith))
 
 part-is-fortmp-end : tie.Need-part-is-fortmp-end Inv-loop μ-loop
-part-is-fortmp-end c = omega (arith, sum-next (c .before .before .before .before .before .args .lengths .now) (c .before .before .loop .i) (omega arith))
+part-is-fortmp-end c =
+    let s : tie.Start Inv-loop μ-loop = search in
+    omega (arith, sum-next (s .args .lengths .now) (c .before .before .loop .i) (omega arith))
 
 loop-again : tie.Need-loop-again Inv-loop μ-loop
 loop-again c =
+    let s : tie.Start Inv-loop μ-loop = search in
     let l = c .before .before .before .before .loop in
-    let a = c .before .before .before .before .before .before .before .args in (
+    let a = s .args in (
       omega arith,
       omega (arith, sum-next (a .lengths .now) (l .i) (omega arith)),
       rw (c .is-fortmp .ensures, part-end (l .at))

@@ -17,7 +17,9 @@ abbrev μ-loop : tie.MeasureT-loop
 μ-loop texts ok₀ i₀ ok i = length texts - i
 
 loop-again : tie.Need-loop-again Inv-loop μ-loop
-loop-again c = (omega arith, rw (c .within .ensures, c .before .wide .ensures .0) (turn (c .before .before .before .before .loop .ok) _ _ (c .before .before .before .before .loop .inv .1) (all-next (between 32 126) (c .before .before .before .before .before .before .args .texts .now) (c .before .before .before .before .loop .i) (omega arith))))
+loop-again c =
+    let at-loop : tie.At-loop Inv-loop μ-loop = search in let s : tie.Start Inv-loop μ-loop = search in
+    (omega arith, rw (c .within .ensures, c .before .wide .ensures .0) (turn (at-loop .loop .ok) _ _ (at-loop .loop .inv .1) (all-next (between 32 126) (s .args .texts .now) (at-loop .loop .i) (omega arith))))
 
 returns : tie.Need-returns Inv-loop μ-loop
 returns c = done (c .before .loop .ok) (c .before .loop .inv .1) (all-end (between 32 126) (c .before .before .before .args .texts .now) (c .before .loop .i) (omega arith))

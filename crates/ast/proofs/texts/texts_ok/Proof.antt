@@ -11,31 +11,42 @@ part-is-fortmp-end : tie.Need-part-is-fortmp-end
 part-is-fortmp-end c = omega (arith, sum-first (c .before .before .before .args .lengths .now) (omega arith))
 
 sub-none-fortmp-2 : tie.Need-sub-none-fortmp-2
-sub-none-fortmp-2 c = omega (arith, sum-first (c .before .before .before .before .before .before .args .lengths .now) (omega arith))
+sub-none-fortmp-2 c =
+    let s : tie.Start = search in
+    omega (arith, sum-first (s .args .lengths .now) (omega arith))
 
 part-none-fortmp-start-2 : tie.Need-part-none-fortmp-start-2
-part-none-fortmp-start-2 c = omega (arith, sum-first (c .before .before .before .before .before .before .args .lengths .now) (omega arith))
+part-none-fortmp-start-2 c =
+    let s : tie.Start = search in
+    omega (arith, sum-first (s .args .lengths .now) (omega arith))
 
 none-fortmp-requires : tie.Need-none-fortmp-requires
 none-fortmp-requires c κs =
-    let a = c .before .before .before .before .before .before .before .args in
+    let s : tie.Start = search in
+    let a = s .args in
     rw (to-end 1 (a .lengths .now), to-end _ (a .texts .now)) (simp length-drop (omega arith, omega (arith, sum-first (a .lengths .now) (omega arith))))
 
 sub-in-order-2 : tie.Need-sub-in-order-2
-sub-in-order-2 c = omega (arith, sum-first (c .before .before .before .before .before .before .before .before .before .args .lengths .now) (omega arith))
+sub-in-order-2 c =
+    let s : tie.Start = search in
+    omega (arith, sum-first (s .args .lengths .now) (omega arith))
 
 part-in-order-start-2 : tie.Need-part-in-order-start-2
-part-in-order-start-2 c = omega (arith, sum-first (c .before .before .before .before .before .before .before .before .before .args .lengths .now) (omega arith))
+part-in-order-start-2 c =
+    let s : tie.Start = search in
+    omega (arith, sum-first (s .args .lengths .now) (omega arith))
 
 in-order-requires : tie.Need-in-order-requires
 in-order-requires c κs =
-    let a = c .before .before .before .before .before .before .before .before .before .before .args in
+    let s : tie.Start = search in
+    let a = s .args in
     rw (to-end 1 (a .lengths .now), to-end _ (a .texts .now)) (simp length-drop (omega arith, omega (arith, sum-first (a .lengths .now) (omega arith))))
 
 returns : tie.Need-returns
 returns c =
-    let a = c .before .before .before .before .before .before .before .before .before .before .before .before .before .args in
-    rw (c .printable .ensures, c .before .before .in-order .ensures, c .before .before .before .before .before .none-fortmp .ensures, c .before .before .before .before .before .before .before .before .is-fortmp .ensures)
+    let at-none-fortmp : tie.After-none-fortmp = search in let at-is-fortmp : tie.After-is-fortmp = search in let s : tie.Start = search in
+    let a = s .args in
+    rw (c .printable .ensures, c .before .before .in-order .ensures, at-none-fortmp .none-fortmp .ensures, at-is-fortmp .is-fortmp .ensures)
     (simp (to-end, sub-zero) (texts-all (a .lengths .now) (a .texts .now) (a .total) (omega arith) (omega arith)))
 
 pub texts-ok-spec : {M : Type 1} → statement M

@@ -17,28 +17,48 @@ use Rattle.execute.proofs.table.insert.Statement.{statement}
 use Rattle.execute.proofs.table.insert.Tie as tie
 
 len-at-requires : tie.Need-len-at-requires
-len-at-requires c κs = (name-formed (c .before .before .before .before .args .state .now) (c .before .before .before .before .pre .0) (c .before .before .before .before .args .tabname) (c .before .before .before .before .pre .1) (c .before .before .slot .ensures))
+len-at-requires c κs =
+    let s : tie.Start = search in
+    (name-formed _ (s .pre .0) _ (s .pre .1) (c .before .before .slot .ensures))
 
 key-place-requires : tie.Need-key-place-requires
-key-place-requires c κs = ((name-formed (c .before .before .before .before .before .before .args .state .now) (c .before .before .before .before .before .before .pre .0) (c .before .before .before .before .before .before .args .tabname) (c .before .before .before .before .before .before .pre .1) (c .before .before .before .before .slot .ensures)) .0, name-small (c .before .before .before .before .before .before .args .state .now) (c .before .before .before .before .before .before .pre .0) (c .before .before .before .before .before .before .args .tabname) (c .before .before .before .before .before .before .pre .1) (c .before .before .before .before .slot .ensures) (ap (λ (o : Option Value). kindIn (seen o)) (name-value (c .before .before .before .before .before .before .args .state .now) (c .before .before .before .before .before .before .pre .0) (c .before .before .before .before .before .before .args .tabname) (c .before .before .before .before .before .before .pre .1) (c .before .before .before .before .slot .ensures)) ∙ c .before .before .before .before .before .before .pre .5) (c .before .len-at .ensures))
+key-place-requires c κs =
+    let at-slot : tie.After-slot = search in let s : tie.Start = search in
+    ((name-formed _ (s .pre .0) _ (s .pre .1) (at-slot .slot .ensures)) .0, name-small (s .args .state .now) (s .pre .0) (s .args .tabname) (s .pre .1) (at-slot .slot .ensures) (ap (λ (o : Option Value). kindIn (seen o)) (name-value _ (s .pre .0) _ (s .pre .1) (at-slot .slot .ensures)) ∙ s .pre .5) (c .before .len-at .ensures))
 
 has-key-requires : tie.Need-has-key-requires
-has-key-requires c κs = ((name-formed (c .before .before .before .before .before .before .before .before .args .state .now) (c .before .before .before .before .before .before .before .before .pre .0) (c .before .before .before .before .before .before .before .before .args .tabname) (c .before .before .before .before .before .before .before .before .pre .1) (c .before .before .before .before .before .before .slot .ensures)) .0, name-small (c .before .before .before .before .before .before .before .before .args .state .now) (c .before .before .before .before .before .before .before .before .pre .0) (c .before .before .before .before .before .before .before .before .args .tabname) (c .before .before .before .before .before .before .before .before .pre .1) (c .before .before .before .before .before .before .slot .ensures) (ap (λ (o : Option Value). kindIn (seen o)) (name-value (c .before .before .before .before .before .before .before .before .args .state .now) (c .before .before .before .before .before .before .before .before .pre .0) (c .before .before .before .before .before .before .before .before .args .tabname) (c .before .before .before .before .before .before .before .before .pre .1) (c .before .before .before .before .before .before .slot .ensures)) ∙ c .before .before .before .before .before .before .before .before .pre .5) (c .before .before .before .len-at .ensures), c .before .key-place .ensures)
+has-key-requires c κs =
+    let at-slot : tie.After-slot = search in let s : tie.Start = search in
+    ((name-formed _ (s .pre .0) _ (s .pre .1) (at-slot .slot .ensures)) .0, name-small (s .args .state .now) (s .pre .0) (s .args .tabname) (s .pre .1) (at-slot .slot .ensures) (ap (λ (o : Option Value). kindIn (seen o)) (name-value _ (s .pre .0) _ (s .pre .1) (at-slot .slot .ensures)) ∙ s .pre .5) (c .before .before .before .len-at .ensures), c .before .key-place .ensures)
 
 store-item-requires : tie.Need-store-item-requires
-store-item-requires c κs = let g = key-in (part (c .before .before .before .before .before .before .before .before .before .before .before .args .state .now) (c .before .before .before .before .before .before .before .before .before .slot .result) 256) (c .before .before .before .before .key-place .result) (c .before .before .before .before .before .before .before .before .before .before .before .args .key) ((name-formed (c .before .before .before .before .before .before .before .before .before .before .before .args .state .now) (c .before .before .before .before .before .before .before .before .before .before .before .pre .0) (c .before .before .before .before .before .before .before .before .before .before .before .args .tabname) (c .before .before .before .before .before .before .before .before .before .before .before .pre .1) (c .before .before .before .before .before .before .before .before .before .slot .ensures)) .1) (ap (λ (o : Option Value). kindIn (seen o)) (name-value (c .before .before .before .before .before .before .before .before .before .before .before .args .state .now) (c .before .before .before .before .before .before .before .before .before .before .before .pre .0) (c .before .before .before .before .before .before .before .before .before .before .before .args .tabname) (c .before .before .before .before .before .before .before .before .before .before .before .pre .1) (c .before .before .before .before .before .before .before .before .before .slot .ensures)) ∙ c .before .before .before .before .before .before .before .before .before .before .before .pre .5) (c .before .before .before .before .before .before .len-at .ensures) (c .before .before .before .before .key-place .ensures) (sym (c .before .before .has-key .ensures) ∙ c .before .if1 .taken) in ((name-formed (c .before .before .before .before .before .before .before .before .before .before .before .args .state .now) (c .before .before .before .before .before .before .before .before .before .before .before .pre .0) (c .before .before .before .before .before .before .before .before .before .before .before .args .tabname) (c .before .before .before .before .before .before .before .before .before .before .before .pre .1) (c .before .before .before .before .before .before .before .before .before .slot .ensures)) .0, (reg-formed (c .before .before .before .before .before .before .before .before .before .before .before .args .state .now) (c .before .before .before .before .before .before .before .before .before .before .before .pre .0) (c .before .before .before .before .before .before .before .before .before .before .before .args .src) (c .before .before .before .before .before .before .before .before .before .before .before .pre .3) (c .before .before .before .before .before .before .before .before .reg .ensures)) .0, omega (arith, c .before .before .before .before .before .before .before .before .before .slot .ensures, c .before .before .before .before .before .before .before .before .reg .ensures), omega (arith, g, name-small (c .before .before .before .before .before .before .before .before .before .before .before .args .state .now) (c .before .before .before .before .before .before .before .before .before .before .before .pre .0) (c .before .before .before .before .before .before .before .before .before .before .before .args .tabname) (c .before .before .before .before .before .before .before .before .before .before .before .pre .1) (c .before .before .before .before .before .before .before .before .before .slot .ensures) (ap (λ (o : Option Value). kindIn (seen o)) (name-value (c .before .before .before .before .before .before .before .before .before .before .before .args .state .now) (c .before .before .before .before .before .before .before .before .before .before .before .pre .0) (c .before .before .before .before .before .before .before .before .before .before .before .args .tabname) (c .before .before .before .before .before .before .before .before .before .before .before .pre .1) (c .before .before .before .before .before .before .before .before .before .slot .ensures)) ∙ c .before .before .before .before .before .before .before .before .before .before .before .pre .5) (c .before .before .before .before .before .before .len-at .ensures)), (reg-formed (c .before .before .before .before .before .before .before .before .before .before .before .args .state .now) (c .before .before .before .before .before .before .before .before .before .before .before .pre .0) (c .before .before .before .before .before .before .before .before .before .before .before .args .src) (c .before .before .before .before .before .before .before .before .before .before .before .pre .3) (c .before .before .before .before .before .before .before .before .reg .ensures)) .1, subst (λ (o : Option Value). 0 < kindIn (seen o)) (sym (reg-value (c .before .before .before .before .before .before .before .before .before .before .before .args .state .now) (c .before .before .before .before .before .before .before .before .before .before .before .pre .0) (c .before .before .before .before .before .before .before .before .before .before .before .args .src) (c .before .before .before .before .before .before .before .before .before .before .before .pre .3) (c .before .before .before .before .before .before .before .before .reg .ensures))) (c .before .before .before .before .before .before .before .before .before .before .before .pre .6), subst (λ (o : Option Value). kindIn (seen o) ≤ 4) (sym (reg-value (c .before .before .before .before .before .before .before .before .before .before .before .args .state .now) (c .before .before .before .before .before .before .before .before .before .before .before .pre .0) (c .before .before .before .before .before .before .before .before .before .before .before .args .src) (c .before .before .before .before .before .before .before .before .before .before .before .pre .3) (c .before .before .before .before .before .before .before .before .reg .ensures))) (c .before .before .before .before .before .before .before .before .before .before .before .pre .7))
+store-item-requires c κs =
+    let at-len-at : tie.After-len-at = search in let at-reg : tie.After-reg = search in let at-slot : tie.After-slot = search in
+    let s : tie.Start = search in
+    let g = key-in (part (s .args .state .now) (at-slot .slot .result) 256) (c .before .before .before .before .key-place .result) (s .args .key) ((name-formed _ (s .pre .0) _ (s .pre .1) (at-slot .slot .ensures)) .1) (ap (λ (o : Option Value). kindIn (seen o)) (name-value _ (s .pre .0) _ (s .pre .1) (at-slot .slot .ensures)) ∙ s .pre .5) (at-len-at .len-at .ensures) (c .before .before .before .before .key-place .ensures) (sym (c .before .before .has-key .ensures) ∙ c .before .if1 .taken) in ((name-formed _ (s .pre .0) _ (s .pre .1) (at-slot .slot .ensures)) .0, (reg-formed _ (s .pre .0) _ (s .pre .3) (at-reg .reg .ensures)) .0, omega (arith, at-slot .slot .ensures, at-reg .reg .ensures), omega (arith, g, name-small (s .args .state .now) (s .pre .0) (s .args .tabname) (s .pre .1) (at-slot .slot .ensures) (ap (λ (o : Option Value). kindIn (seen o)) (name-value _ (s .pre .0) _ (s .pre .1) (at-slot .slot .ensures)) ∙ s .pre .5) (at-len-at .len-at .ensures)), (reg-formed _ (s .pre .0) _ (s .pre .3) (at-reg .reg .ensures)) .1, subst (λ (o : Option Value). 0 < kindIn (seen o)) (sym (reg-value _ (s .pre .0) _ (s .pre .3) (at-reg .reg .ensures))) (s .pre .6), subst (λ (o : Option Value). kindIn (seen o) ≤ 4) (sym (reg-value _ (s .pre .0) _ (s .pre .3) (at-reg .reg .ensures))) (s .pre .7))
 
 returns : tie.Need-returns
-returns c = tabled-set (c .before .before .before .before .before .before .before .before .before .before .before .before .before .before .args .state .now) (c .before .before .before .before .before .before .before .before .before .before .before .before .before .before .pre .0) (c .before .before .before .before .before .before .before .before .before .before .before .before .before .before .args .tabname) (c .before .before .before .before .before .before .before .before .before .before .before .before .before .before .pre .1) (c .before .before .before .before .before .before .before .before .before .before .before .before .slot .ensures) (c .before .before .before .before .before .before .before .before .before .before .before .before .before .before .args .key) (regsOf (c .before .before .before .before .before .before .before .before .before .before .before .before .before .before .args .state .now) (c .before .before .before .before .before .before .before .before .before .before .before .before .before .before .args .src)) (ap (λ (o : Option Value). kindIn (seen o)) (name-value (c .before .before .before .before .before .before .before .before .before .before .before .before .before .before .args .state .now) (c .before .before .before .before .before .before .before .before .before .before .before .before .before .before .pre .0) (c .before .before .before .before .before .before .before .before .before .before .before .before .before .before .args .tabname) (c .before .before .before .before .before .before .before .before .before .before .before .before .before .before .pre .1) (c .before .before .before .before .before .before .before .before .before .before .before .before .slot .ensures)) ∙ c .before .before .before .before .before .before .before .before .before .before .before .before .before .before .pre .5) (c .before .before .before .before .before .before .before .before .before .len-at .ensures) (c .before .before .before .before .before .before .before .before .before .before .before .before .before .before .pre .6) (c .before .before .before .before .before .before .before .before .before .before .before .before .before .before .pre .7) (c .before .before .before .before .before .before .before .key-place .result) (c .before .before .before .before .before .before .before .key-place .ensures) (c .before .before .before .before .before .has-key .ensures) (c .before .before .before .before .if1 .taken) refl (c .before .before .store-item .ensures ∙ ap (λ (o : Option Value). splice (c .before .before .before .before .before .before .before .before .before .before .before .before .before .before .args .state .now) (c .before .before .before .before .before .before .before .before .before .before .before .before .slot .result) (setItem (part (c .before .before .before .before .before .before .before .before .before .before .before .before .before .before .args .state .now) (c .before .before .before .before .before .before .before .before .before .before .before .before .slot .result) 256) (c .before .before .before .before .before .before .before .key-place .result) (singleSeen (seen o)))) (reg-value (c .before .before .before .before .before .before .before .before .before .before .before .before .before .before .args .state .now) (c .before .before .before .before .before .before .before .before .before .before .before .before .before .before .pre .0) (c .before .before .before .before .before .before .before .before .before .before .before .before .before .before .args .src) (c .before .before .before .before .before .before .before .before .before .before .before .before .before .before .pre .3) (c .before .before .before .before .before .before .before .before .before .before .before .reg .ensures)))
+returns c =
+    let at-has-key : tie.After-has-key = search in let at-key-place : tie.After-key-place = search in let at-len-at : tie.After-len-at = search in
+    let at-reg : tie.After-reg = search in let at-slot : tie.After-slot = search in let s : tie.Start = search in
+    tabled-set (s .args .state .now) (s .pre .0) (s .args .tabname) (s .pre .1) (at-slot .slot .ensures) (s .args .key) (regsOf (s .args .state .now) (s .args .src)) (ap (λ (o : Option Value). kindIn (seen o)) (name-value _ (s .pre .0) _ (s .pre .1) (at-slot .slot .ensures)) ∙ s .pre .5) (at-len-at .len-at .ensures) (s .pre .6) (s .pre .7) (at-key-place .key-place .result) (at-key-place .key-place .ensures) (at-has-key .has-key .ensures) (c .before .before .before .before .if1 .taken) refl (c .before .before .store-item .ensures ∙ ap (λ (o : Option Value). splice (s .args .state .now) (at-slot .slot .result) (setItem (part (s .args .state .now) (at-slot .slot .result) 256) (at-key-place .key-place .result) (singleSeen (seen o)))) (reg-value _ (s .pre .0) _ (s .pre .3) (at-reg .reg .ensures)))
 
 returns-2 : tie.Need-returns-2
-returns-2 c = tabled-full (c .before .before .before .before .before .before .before .before .before .before .before .before .args .state .now) (c .before .before .before .before .before .before .before .before .before .before .before .before .pre .0) (c .before .before .before .before .before .before .before .before .before .before .before .before .args .tabname) (c .before .before .before .before .before .before .before .before .before .before .before .before .pre .1) (c .before .before .before .before .before .before .before .before .before .before .slot .ensures) (c .before .before .before .before .before .before .before .before .before .before .before .before .args .key) (regsOf (c .before .before .before .before .before .before .before .before .before .before .before .before .args .state .now) (c .before .before .before .before .before .before .before .before .before .before .before .before .args .src)) (ap (λ (o : Option Value). kindIn (seen o)) (name-value (c .before .before .before .before .before .before .before .before .before .before .before .before .args .state .now) (c .before .before .before .before .before .before .before .before .before .before .before .before .pre .0) (c .before .before .before .before .before .before .before .before .before .before .before .before .args .tabname) (c .before .before .before .before .before .before .before .before .before .before .before .before .pre .1) (c .before .before .before .before .before .before .before .before .before .before .slot .ensures)) ∙ c .before .before .before .before .before .before .before .before .before .before .before .before .pre .5) (c .before .before .before .before .before .before .before .len-at .ensures) (c .before .before .before .before .before .before .before .before .before .before .before .before .pre .6) (c .before .before .before .before .before .before .before .before .before .before .before .before .pre .7) (c .before .before .before .before .before .before .before .before .before .before .before .before .pre .4) (c .before .before .before .has-key .ensures) (c .before .before .if1 .left) (c .before .if2 .taken) (ap did.Err (c .keys-full .ensures)) refl
+returns-2 c =
+    let at-len-at : tie.After-len-at = search in let at-slot : tie.After-slot = search in let s : tie.Start = search in
+    tabled-full (s .args .state .now) (s .pre .0) (s .args .tabname) (s .pre .1) (at-slot .slot .ensures) (s .args .key) (regsOf (s .args .state .now) (s .args .src)) (ap (λ (o : Option Value). kindIn (seen o)) (name-value _ (s .pre .0) _ (s .pre .1) (at-slot .slot .ensures)) ∙ s .pre .5) (at-len-at .len-at .ensures) (s .pre .6) (s .pre .7) (s .pre .4) (c .before .before .before .has-key .ensures) (c .before .before .if1 .left) (c .before .if2 .taken) (ap did.Err (c .keys-full .ensures)) refl
 
 insert-new-requires : tie.Need-insert-new-requires
-insert-new-requires c κs = (((name-formed (c .before .before .before .before .before .before .before .before .before .before .before .before .args .state .now) (c .before .before .before .before .before .before .before .before .before .before .before .before .pre .0) (c .before .before .before .before .before .before .before .before .before .before .before .before .args .tabname) (c .before .before .before .before .before .before .before .before .before .before .before .before .pre .1) (c .before .before .before .before .before .before .before .before .before .before .slot .ensures)) .0, (reg-formed (c .before .before .before .before .before .before .before .before .before .before .before .before .args .state .now) (c .before .before .before .before .before .before .before .before .before .before .before .before .pre .0) (c .before .before .before .before .before .before .before .before .before .before .before .before .args .src) (c .before .before .before .before .before .before .before .before .before .before .before .before .pre .3) (c .before .before .before .before .before .before .before .before .before .reg .ensures)) .0, omega (arith, c .before .before .before .before .before .before .before .before .before .before .slot .ensures, c .before .before .before .before .before .before .before .before .before .reg .ensures), (name-formed (c .before .before .before .before .before .before .before .before .before .before .before .before .args .state .now) (c .before .before .before .before .before .before .before .before .before .before .before .before .pre .0) (c .before .before .before .before .before .before .before .before .before .before .before .before .args .tabname) (c .before .before .before .before .before .before .before .before .before .before .before .before .pre .1) (c .before .before .before .before .before .before .before .before .before .before .slot .ensures)) .1, (ap (λ (o : Option Value). kindIn (seen o)) (name-value (c .before .before .before .before .before .before .before .before .before .before .before .before .args .state .now) (c .before .before .before .before .before .before .before .before .before .before .before .before .pre .0) (c .before .before .before .before .before .before .before .before .before .before .before .before .args .tabname) (c .before .before .before .before .before .before .before .before .before .before .before .before .pre .1) (c .before .before .before .before .before .before .before .before .before .before .slot .ensures)) ∙ c .before .before .before .before .before .before .before .before .before .before .before .before .pre .5), (c .before .before .before .before .before .before .before .len-at .ensures), c .before .if2 .left), (c .before .before .before .before .before .key-place .ensures, sym (c .before .before .before .has-key .ensures) ∙ c .before .before .if1 .left, c .before .before .before .before .before .before .before .before .before .before .before .before .pre .2, (reg-formed (c .before .before .before .before .before .before .before .before .before .before .before .before .args .state .now) (c .before .before .before .before .before .before .before .before .before .before .before .before .pre .0) (c .before .before .before .before .before .before .before .before .before .before .before .before .args .src) (c .before .before .before .before .before .before .before .before .before .before .before .before .pre .3) (c .before .before .before .before .before .before .before .before .before .reg .ensures)) .1, subst (λ (o : Option Value). 0 < kindIn (seen o)) (sym (reg-value (c .before .before .before .before .before .before .before .before .before .before .before .before .args .state .now) (c .before .before .before .before .before .before .before .before .before .before .before .before .pre .0) (c .before .before .before .before .before .before .before .before .before .before .before .before .args .src) (c .before .before .before .before .before .before .before .before .before .before .before .before .pre .3) (c .before .before .before .before .before .before .before .before .before .reg .ensures))) (c .before .before .before .before .before .before .before .before .before .before .before .before .pre .6), subst (λ (o : Option Value). kindIn (seen o) ≤ 4) (sym (reg-value (c .before .before .before .before .before .before .before .before .before .before .before .before .args .state .now) (c .before .before .before .before .before .before .before .before .before .before .before .before .pre .0) (c .before .before .before .before .before .before .before .before .before .before .before .before .args .src) (c .before .before .before .before .before .before .before .before .before .before .before .before .pre .3) (c .before .before .before .before .before .before .before .before .before .reg .ensures))) (c .before .before .before .before .before .before .before .before .before .before .before .before .pre .7)))
+insert-new-requires c κs =
+    let at-key-place : tie.After-key-place = search in let at-len-at : tie.After-len-at = search in let at-reg : tie.After-reg = search in
+    let at-slot : tie.After-slot = search in let s : tie.Start = search in
+    (((name-formed _ (s .pre .0) _ (s .pre .1) (at-slot .slot .ensures)) .0, (reg-formed _ (s .pre .0) _ (s .pre .3) (at-reg .reg .ensures)) .0, omega (arith, at-slot .slot .ensures, at-reg .reg .ensures), (name-formed _ (s .pre .0) _ (s .pre .1) (at-slot .slot .ensures)) .1, (ap (λ (o : Option Value). kindIn (seen o)) (name-value _ (s .pre .0) _ (s .pre .1) (at-slot .slot .ensures)) ∙ s .pre .5), (at-len-at .len-at .ensures), c .before .if2 .left), (at-key-place .key-place .ensures, sym (c .before .before .before .has-key .ensures) ∙ c .before .before .if1 .left, s .pre .2, (reg-formed _ (s .pre .0) _ (s .pre .3) (at-reg .reg .ensures)) .1, subst (λ (o : Option Value). 0 < kindIn (seen o)) (sym (reg-value _ (s .pre .0) _ (s .pre .3) (at-reg .reg .ensures))) (s .pre .6), subst (λ (o : Option Value). kindIn (seen o) ≤ 4) (sym (reg-value _ (s .pre .0) _ (s .pre .3) (at-reg .reg .ensures))) (s .pre .7)))
 
 returns-3 : tie.Need-returns-3
-returns-3 c = tabled-new (c .before .before .before .before .before .before .before .before .before .before .before .before .before .before .before .args .state .now) (c .before .before .before .before .before .before .before .before .before .before .before .before .before .before .before .pre .0) (c .before .before .before .before .before .before .before .before .before .before .before .before .before .before .before .args .tabname) (c .before .before .before .before .before .before .before .before .before .before .before .before .before .before .before .pre .1) (c .before .before .before .before .before .before .before .before .before .before .before .before .before .slot .ensures) (c .before .before .before .before .before .before .before .before .before .before .before .before .before .before .before .args .key) (regsOf (c .before .before .before .before .before .before .before .before .before .before .before .before .before .before .before .args .state .now) (c .before .before .before .before .before .before .before .before .before .before .before .before .before .before .before .args .src)) (ap (λ (o : Option Value). kindIn (seen o)) (name-value (c .before .before .before .before .before .before .before .before .before .before .before .before .before .before .before .args .state .now) (c .before .before .before .before .before .before .before .before .before .before .before .before .before .before .before .pre .0) (c .before .before .before .before .before .before .before .before .before .before .before .before .before .before .before .args .tabname) (c .before .before .before .before .before .before .before .before .before .before .before .before .before .before .before .pre .1) (c .before .before .before .before .before .before .before .before .before .before .before .before .before .slot .ensures)) ∙ c .before .before .before .before .before .before .before .before .before .before .before .before .before .before .before .pre .5) (c .before .before .before .before .before .before .before .before .before .before .len-at .ensures) (c .before .before .before .before .before .before .before .before .before .before .before .before .before .before .before .pre .6) (c .before .before .before .before .before .before .before .before .before .before .before .before .before .before .before .pre .7) (c .before .before .before .before .before .before .before .before .before .before .before .before .before .before .before .pre .4) (c .before .before .before .before .before .before .has-key .ensures) (c .before .before .before .before .before .if1 .left) (c .before .before .before .before .if2 .left) refl (new-size (entriesIn (c .before .before .before .before .before .before .before .before .before .before .len-at .result) (part (c .before .before .before .before .before .before .before .before .before .before .before .before .before .before .before .args .state .now) (c .before .before .before .before .before .before .before .before .before .before .before .before .before .slot .result) 256)) (c .before .before .before .before .before .before .before .before .before .before .before .before .before .before .before .args .key) (singleSeen (seen (regsOf (c .before .before .before .before .before .before .before .before .before .before .before .before .before .before .before .args .state .now) (c .before .before .before .before .before .before .before .before .before .before .before .before .before .before .before .args .src)))) (sym (c .before .before .before .before .before .before .has-key .ensures) ∙ c .before .before .before .before .before .if1 .left) (omega (arith, c .before .before .before .before .if2 .left, tab-length (part (c .before .before .before .before .before .before .before .before .before .before .before .before .before .before .before .args .state .now) (c .before .before .before .before .before .before .before .before .before .before .before .before .before .slot .result) 256) ((name-formed (c .before .before .before .before .before .before .before .before .before .before .before .before .before .before .before .args .state .now) (c .before .before .before .before .before .before .before .before .before .before .before .before .before .before .before .pre .0) (c .before .before .before .before .before .before .before .before .before .before .before .before .before .before .before .args .tabname) (c .before .before .before .before .before .before .before .before .before .before .before .before .before .before .before .pre .1) (c .before .before .before .before .before .before .before .before .before .before .before .before .before .slot .ensures)) .1) (ap (λ (o : Option Value). kindIn (seen o)) (name-value (c .before .before .before .before .before .before .before .before .before .before .before .before .before .before .before .args .state .now) (c .before .before .before .before .before .before .before .before .before .before .before .before .before .before .before .pre .0) (c .before .before .before .before .before .before .before .before .before .before .before .before .before .before .before .args .tabname) (c .before .before .before .before .before .before .before .before .before .before .before .before .before .before .before .pre .1) (c .before .before .before .before .before .before .before .before .before .before .before .before .before .slot .ensures)) ∙ c .before .before .before .before .before .before .before .before .before .before .before .before .before .before .before .pre .5) (c .before .before .before .before .before .before .before .before .before .before .len-at .ensures)))) (c .before .before .insert-new .ensures ∙ ap (λ (o : Option Value). splice (c .before .before .before .before .before .before .before .before .before .before .before .before .before .before .before .args .state .now) (c .before .before .before .before .before .before .before .before .before .before .before .before .before .slot .result) (encodeSlot (some (Tab (insert (entriesIn (c .before .before .before .before .before .before .before .before .before .before .len-at .result) (part (c .before .before .before .before .before .before .before .before .before .before .before .before .before .before .before .args .state .now) (c .before .before .before .before .before .before .before .before .before .before .before .before .before .slot .result) 256)) (c .before .before .before .before .before .before .before .before .before .before .before .before .before .before .before .args .key) (singleSeen (seen o))))))) (reg-value (c .before .before .before .before .before .before .before .before .before .before .before .before .before .before .before .args .state .now) (c .before .before .before .before .before .before .before .before .before .before .before .before .before .before .before .pre .0) (c .before .before .before .before .before .before .before .before .before .before .before .before .before .before .before .args .src) (c .before .before .before .before .before .before .before .before .before .before .before .before .before .before .before .pre .3) (c .before .before .before .before .before .before .before .before .before .before .before .before .reg .ensures)))
+returns-3 c =
+    let else1 : tie.Else1 = search in let at-has-key : tie.After-has-key = search in let at-len-at : tie.After-len-at = search in
+    let at-reg : tie.After-reg = search in let at-slot : tie.After-slot = search in let s : tie.Start = search in
+    tabled-new (s .args .state .now) (s .pre .0) (s .args .tabname) (s .pre .1) (at-slot .slot .ensures) (s .args .key) (regsOf (s .args .state .now) (s .args .src)) (ap (λ (o : Option Value). kindIn (seen o)) (name-value _ (s .pre .0) _ (s .pre .1) (at-slot .slot .ensures)) ∙ s .pre .5) (at-len-at .len-at .ensures) (s .pre .6) (s .pre .7) (s .pre .4) (at-has-key .has-key .ensures) (else1 .if1 .left) (c .before .before .before .before .if2 .left) refl (new-size (entriesIn (at-len-at .len-at .result) (part (s .args .state .now) (at-slot .slot .result) 256)) (s .args .key) (singleSeen (seen (regsOf (s .args .state .now) (s .args .src)))) (sym (at-has-key .has-key .ensures) ∙ else1 .if1 .left) (omega (arith, c .before .before .before .before .if2 .left, tab-length (part (s .args .state .now) (at-slot .slot .result) 256) ((name-formed _ (s .pre .0) _ (s .pre .1) (at-slot .slot .ensures)) .1) (ap (λ (o : Option Value). kindIn (seen o)) (name-value _ (s .pre .0) _ (s .pre .1) (at-slot .slot .ensures)) ∙ s .pre .5) (at-len-at .len-at .ensures)))) (c .before .before .insert-new .ensures ∙ ap (λ (o : Option Value). splice (s .args .state .now) (at-slot .slot .result) (encodeSlot (some (Tab (insert (entriesIn (at-len-at .len-at .result) (part (s .args .state .now) (at-slot .slot .result) 256)) (s .args .key) (singleSeen (seen o))))))) (reg-value _ (s .pre .0) _ (s .pre .3) (at-reg .reg .ensures)))
 
 pub insert-spec : {M : Type 1} → statement M
 insert-spec =

@@ -12,26 +12,37 @@ shared-slice-read-n c =
 
 shared-slice-read-array-fields : tie.Need-shared-slice-read-array-fields
 shared-slice-read-array-fields c =
-    let h = arr-asks (c .before .before .before .before .before .pre .0) (c .before .before .before .before .before .pre .1) in
+    let s : tie.Start = search in
+    let h = arr-asks (s .pre .0) (s .pre .1) in
     omega (arith, arr-roomb (h .2))
 
 push-items-requires : tie.Need-push-items-requires
-push-items-requires c κs = (c .before .before .before .before .before .before .before .pre .0 .ready, omega (arith, c .before .before .before .shared-slice-known3 .given 1))
+push-items-requires c κs =
+    let s : tie.Start = search in
+    (s .pre .0 .ready, omega (arith, c .before .before .before .shared-slice-known3 .given 1))
 
 arrayitems-requires : tie.Need-arrayitems-requires
 arrayitems-requires c κs =
-    let h = arr-asks (c .before .before .before .before .before .before .before .before .before .before .before .before .before .pre .0) (c .before .before .before .before .before .before .before .before .before .before .before .before .before .pre .1) in
-    let r = c .before .before .before .before .before .before .before .before .before .before .before .before .before .pre .0 .ready in
-    ((omega (arith, c .before .before .before .before .before .before .before .before .before .shared-slice-known3 .given 1), r .pool, λ e. omega (arith, c .before .before .before .before .before .push-items .ensures .room e, c .before .before .before .before .before .push-items .kept, r .room)), (h .1, arr-lits (h .2)))
+    let at-push-items : tie.After-push-items = search in let at-shared-slice-known3 : tie.After-shared-slice-known3 = search in
+    let s : tie.Start = search in
+    let h = arr-asks (s .pre .0) (s .pre .1) in
+    let r = s .pre .0 .ready in
+    ((omega (arith, at-shared-slice-known3 .shared-slice-known3 .given 1), r .pool, λ e. omega (arith, at-push-items .push-items .ensures .room e, at-push-items .push-items .kept, r .room)), (h .1, arr-lits (h .2)))
 
 mul-start : tie.Need-mul-start
-mul-start c = omega (arith, c .before .before .before .before .before .before .before .before .before .before .before .before .shared-slice-known3 .given 1)
+mul-start c =
+    let at-shared-slice-known3 : tie.After-shared-slice-known3 = search in
+    omega (arith, at-shared-slice-known3 .shared-slice-known3 .given 1)
 
 add-start : tie.Need-add-start
-add-start c = omega (arith, c .before .before .before .before .before .before .before .before .before .before .before .before .shared-slice-known3 .given 1)
+add-start c =
+    let at-shared-slice-known3 : tie.After-shared-slice-known3 = search in
+    omega (arith, at-shared-slice-known3 .shared-slice-known3 .given 1)
 
 returns : tie.Need-returns
-returns c = arr-front (c .before .before .before .before .before .before .before .before .before .before .before .before .before .before .before .before .before .pre .1) (λ a ls h. arr-made h (c .before .before .before .before .before .before .before .before .before .before .before .array-fields .ensures) (c .before .before .before .before .before .before .before .before .before .push-items .ensures) (c .before .before .before .arrayitems .ensures ls (arr-lits h)) (c .start .ensures))
+returns c =
+    let at-push-items : tie.After-push-items = search in let at-array-fields : tie.After-array-fields = search in let s : tie.Start = search in
+    arr-front (s .pre .1) (λ a ls h. arr-made h (at-array-fields .array-fields .ensures) (at-push-items .push-items .ensures) (c .before .before .before .arrayitems .ensures ls (arr-lits h)) (c .start .ensures))
 
 pub arraydecl-spec : {M : Type 1} → statement M
 arraydecl-spec =

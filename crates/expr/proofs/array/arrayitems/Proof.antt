@@ -20,78 +20,91 @@ loop-holds : tie.Need-loop-holds Inv-loop μ-loop
 loop-holds c = (omega arith, refl, omega (arith, c .before .before .before .pre .1 .1 .head), λ ls h. more-start ls _ _ _ _ _ _ h)
 
 mul-kind : tie.Need-mul-kind Inv-loop μ-loop
-mul-kind c = omega (arith, c .before .before .before .before .before .pre .0 .0, c .loop-test .taken)
+mul-kind c =
+    let s : tie.Start Inv-loop μ-loop = search in
+    omega (arith, s .pre .0 .0, c .loop-test .taken)
 
 add-kind : tie.Need-add-kind Inv-loop μ-loop
-add-kind c = omega (arith, c .before .before .before .before .before .pre .0 .0, c .loop-test .taken)
+add-kind c =
+    let s : tie.Start Inv-loop μ-loop = search in
+    omega (arith, s .pre .0 .0, c .loop-test .taken)
 
 shared-slice-read-kind : tie.Need-shared-slice-read-kind Inv-loop μ-loop
 shared-slice-read-kind c =
+    let s : tie.Start Inv-loop μ-loop = search in
     let l = c .before .before .loop in
-    let a = c .before .before .before .before .before .before .args in
-    let p = c .before .before .before .before .before .before .pre in
+    let a = s .args in
+    let p = s .pre in
     let k = c .before .loop-test .taken in
     let t = next (p .1 .0) (a .n) (a .contents .now) (a .bodies .now) (a .keep) (a .k) (a .out .now) (l .at) (l .i) (l .out) (λ e. omega (arith, p .0 .2 e, l .inv .1, k)) k (l .inv .2) (l .inv .3 (p .1 .0) (p .1 .1)) in
     omega (arith, t .entry)
 
 val-from-primary-requires : tie.Need-val-from-primary-requires Inv-loop μ-loop
 val-from-primary-requires c κs =
+    let s : tie.Start Inv-loop μ-loop = search in
     let l = c .before .before .loop in
-    let a = c .before .before .before .before .before .before .args in
-    let p = c .before .before .before .before .before .before .pre in
+    let a = s .args in
+    let p = s .pre in
     let k = c .before .loop-test .taken in
     let t = next (p .1 .0) (a .n) (a .contents .now) (a .bodies .now) (a .keep) (a .k) (a .out .now) (l .at) (l .i) (l .out) (λ e. omega (arith, p .0 .2 e, l .inv .1, k)) k (l .inv .2) (l .inv .3 (p .1 .0) (p .1 .1)) in
     (t .num, t .text)
 
 add-keep-item : tie.Need-add-keep-item Inv-loop μ-loop
 add-keep-item c =
+    let s : tie.Start Inv-loop μ-loop = search in
     let l = c .before .before .before .loop in
-    let a = c .before .before .before .before .before .before .before .args in
-    let p = c .before .before .before .before .before .before .before .pre in
+    let a = s .args in
+    let p = s .pre in
     let k = c .before .before .loop-test .taken in
     omega (arith, p .0 .0, p .0 .1, k)
 
 keep-item-requires : tie.Need-keep-item-requires Inv-loop μ-loop
 keep-item-requires c κs =
+    let s : tie.Start Inv-loop μ-loop = search in
     let l = c .before .before .before .before .loop in
-    let a = c .before .before .before .before .before .before .before .before .args in
-    let p = c .before .before .before .before .before .before .before .before .pre in
+    let a = s .args in
+    let p = s .pre in
     let k = c .before .before .before .loop-test .taken in
     λ e. omega (arith, p .0 .2 e, l .inv .1, k)
 
 add-at : tie.Need-add-at Inv-loop μ-loop
 add-at c =
-    let l = c .before .before .before .before .before .before .before .before .loop in
-    let a = c .before .before .before .before .before .before .before .before .before .before .before .before .args in
-    let p = c .before .before .before .before .before .before .before .before .before .before .before .before .pre in
+    let at-loop : tie.At-loop Inv-loop μ-loop = search in let s : tie.Start Inv-loop μ-loop = search in
+    let l = at-loop .loop in
+    let a = s .args in
+    let p = s .pre in
     let k = c .before .before .before .before .before .before .before .loop-test .taken in
     let t = next (p .1 .0) (a .n) (a .contents .now) (a .bodies .now) (a .keep) (a .k) (a .out .now) (l .at) (l .i) (l .out) (λ e. omega (arith, p .0 .2 e, l .inv .1, k)) k (l .inv .2) (l .inv .3 (p .1 .0) (p .1 .1)) in
     omega (arith, t .size, c .lit-size .ensures)
 
 add-i : tie.Need-add-i Inv-loop μ-loop
 add-i c =
-    let l = c .before .before .before .before .before .before .before .before .loop in
-    let a = c .before .before .before .before .before .before .before .before .before .before .before .before .args in
-    let p = c .before .before .before .before .before .before .before .before .before .before .before .before .pre in
+    let at-loop : tie.At-loop Inv-loop μ-loop = search in let s : tie.Start Inv-loop μ-loop = search in
+    let l = at-loop .loop in
+    let a = s .args in
+    let p = s .pre in
     let k = c .before .before .before .before .before .before .before .loop-test .taken in
     omega (arith, p .0 .0, k)
 
 loop-less : tie.Need-loop-less Inv-loop μ-loop
 loop-less c =
-    let l = c .before .before .before .before .before .before .before .before .loop in
-    let a = c .before .before .before .before .before .before .before .before .before .before .before .before .args in
-    let p = c .before .before .before .before .before .before .before .before .before .before .before .before .pre in
+    let at-loop : tie.At-loop Inv-loop μ-loop = search in let s : tie.Start Inv-loop μ-loop = search in
+    let l = at-loop .loop in
+    let a = s .args in
+    let p = s .pre in
     let k = c .before .before .before .before .before .before .before .loop-test .taken in
     omega (arith, k)
 
 loop-again : tie.Need-loop-again Inv-loop μ-loop
 loop-again c =
-    let l = c .before .before .before .before .before .before .before .before .loop in
-    let a = c .before .before .before .before .before .before .before .before .before .before .before .before .args in
-    let p = c .before .before .before .before .before .before .before .before .before .before .before .before .pre in
+    let at-val-from-primary : tie.After-val-from-primary Inv-loop μ-loop = search in let at-loop : tie.At-loop Inv-loop μ-loop = search in
+    let s : tie.Start Inv-loop μ-loop = search in
+    let l = at-loop .loop in
+    let a = s .args in
+    let p = s .pre in
     let k = c .before .before .before .before .before .before .before .loop-test .taken in
     let t = next (p .1 .0) (a .n) (a .contents .now) (a .bodies .now) (a .keep) (a .k) (a .out .now) (l .at) (l .i) (l .out) (λ e. omega (arith, p .0 .2 e, l .inv .1, k)) k (l .inv .2) (l .inv .3 (p .1 .0) (p .1 .1)) in
-    (omega (arith, k), omega (arith, c .before .before .before .keep-item .kept, l .inv .1), omega (arith, t .entry), λ ls h. rw (c .lit-size .ensures) (next ls (a .n) (a .contents .now) (a .bodies .now) (a .keep) (a .k) (a .out .now) (l .at) (l .i) (l .out) (λ e. omega (arith, p .0 .2 e, l .inv .1, k)) k (l .inv .2) (l .inv .3 ls h) .more _ _ (c .before .before .before .before .before .val-from-primary .ensures) (c .before .before .before .keep-item .ensures)))
+    (omega (arith, k), omega (arith, c .before .before .before .keep-item .kept, l .inv .1), omega (arith, t .entry), λ ls h. rw (c .lit-size .ensures) (next ls (a .n) (a .contents .now) (a .bodies .now) (a .keep) (a .k) (a .out .now) (l .at) (l .i) (l .out) (λ e. omega (arith, p .0 .2 e, l .inv .1, k)) k (l .inv .2) (l .inv .3 ls h) .more _ _ (at-val-from-primary .val-from-primary .ensures) (c .before .before .before .keep-item .ensures)))
 
 returns : tie.Need-returns Inv-loop μ-loop
 returns c = λ ls h. more-end (c .loop-test .left) (c .before .loop .inv .3 ls h)

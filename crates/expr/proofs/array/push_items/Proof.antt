@@ -10,10 +10,14 @@ returns-2 : tie.Need-returns-2
 returns-2 c = items-full _ _ _ _ _ (c .before .before .before .if1 .left) (sym (c .before .before .is-full .ensures) ∙ c .before .if2 .taken) (c .refused .ensures)
 
 keep-record-requires : tie.Need-keep-record-requires
-keep-record-requires c κs = let a = c .before .before .before .before .before .before .args in λ k. omega (arith, roomy (a .keep) (a .low) (a .n) (sym (c .before .before .is-full .ensures) ∙ c .before .if2 .left) .1 k .0, c .before .before .before .before .before .before .pre .0 .room)
+keep-record-requires c κs =
+    let s : tie.Start = search in
+    let a = s .args in λ k. omega (arith, roomy (a .keep) (a .low) (a .n) (sym (c .before .before .is-full .ensures) ∙ c .before .if2 .left) .1 k .0, s .pre .0 .room)
 
 returns-3 : tie.Need-returns-3
-returns-3 c = items-put _ _ _ _ _ (c .before .before .before .before .before .before .before .if1 .left) (sym (c .before .before .before .before .before .before .is-full .ensures) ∙ c .before .before .before .before .before .if2 .left) (c .before .before .before .before .before .before .before .before .before .before .pre .0) (c .count .ensures) (c .before .before .before .keep-record .ensures)
+returns-3 c =
+    let else2 : tie.Else2 = search in let at-is-full : tie.After-is-full = search in let else1 : tie.Else1 = search in let s : tie.Start = search in
+    items-put _ _ _ _ _ (else1 .if1 .left) (sym (at-is-full .is-full .ensures) ∙ else2 .if2 .left) (s .pre .0) (c .count .ensures) (c .before .before .before .keep-record .ensures)
 
 pub push-items-spec : {M : Type 1} → statement M
 push-items-spec =

@@ -16,31 +16,49 @@ abbrev μ-loop : tie.MeasureT-loop
 μ-loop entries bodies u₀ v₀ more₀ u v more = length entries - u
 
 shared-slice-read-body-size : tie.Need-shared-slice-read-body-size Inv-loop μ-loop
-shared-slice-read-body-size c = let l = c .before .before .loop in let a = c .before .before .before .before .before .args in let h = c .before .before .before .before .before .pre in let t = turn (flatExpr (h .0)) (a .entries .now) (a .bodies .now) (l .u) (l .v) (l .more) (c .before .loop-test .taken) (l .inv .0) (l .inv .1) (l .inv .2 (h .0) (h .1)) in omega (arith, t .within)
+shared-slice-read-body-size c =
+    let s : tie.Start Inv-loop μ-loop = search in
+    let l = c .before .before .loop in let a = s .args in let h = s .pre in let t = turn (flatExpr (h .0)) (a .entries .now) (a .bodies .now) (l .u) (l .v) (l .more) (c .before .loop-test .taken) (l .inv .0) (l .inv .1) (l .inv .2 (h .0) (h .1)) in omega (arith, t .within)
 
 add-v : tie.Need-add-v Inv-loop μ-loop
-add-v c = let l = c .before .before .before .loop in let a = c .before .before .before .before .before .before .args in let h = c .before .before .before .before .before .before .pre in let t = turn (flatExpr (h .0)) (a .entries .now) (a .bodies .now) (l .u) (l .v) (l .more) (c .before .before .loop-test .taken) (l .inv .0) (l .inv .1) (l .inv .2 (h .0) (h .1)) in omega (arith, t .bodies, c .body-size .ensures)
+add-v c =
+    let s : tie.Start Inv-loop μ-loop = search in
+    let l = c .before .before .before .loop in let a = s .args in let h = s .pre in let t = turn (flatExpr (h .0)) (a .entries .now) (a .bodies .now) (l .u) (l .v) (l .more) (c .before .before .loop-test .taken) (l .inv .0) (l .inv .1) (l .inv .2 (h .0) (h .1)) in omega (arith, t .bodies, c .body-size .ensures)
 
 add-more : tie.Need-add-more Inv-loop μ-loop
-add-more c = let l = c .before .before .before .loop in let a = c .before .before .before .before .before .before .args in let h = c .before .before .before .before .before .before .pre in let t = turn (flatExpr (h .0)) (a .entries .now) (a .bodies .now) (l .u) (l .v) (l .more) (c .before .before .loop-test .taken) (l .inv .0) (l .inv .1) (l .inv .2 (h .0) (h .1)) in omega (arith, t .within)
+add-more c =
+    let s : tie.Start Inv-loop μ-loop = search in
+    let l = c .before .before .before .loop in let a = s .args in let h = s .pre in let t = turn (flatExpr (h .0)) (a .entries .now) (a .bodies .now) (l .u) (l .v) (l .more) (c .before .before .loop-test .taken) (l .inv .0) (l .inv .1) (l .inv .2 (h .0) (h .1)) in omega (arith, t .within)
 
 shared-slice-read-more : tie.Need-shared-slice-read-more Inv-loop μ-loop
-shared-slice-read-more c = let l = c .before .before .before .before .loop in let a = c .before .before .before .before .before .before .before .args in let h = c .before .before .before .before .before .before .before .pre in let t = turn (flatExpr (h .0)) (a .entries .now) (a .bodies .now) (l .u) (l .v) (l .more) (c .before .before .before .loop-test .taken) (l .inv .0) (l .inv .1) (l .inv .2 (h .0) (h .1)) in omega (arith, t .within)
+shared-slice-read-more c =
+    let s : tie.Start Inv-loop μ-loop = search in
+    let l = c .before .before .before .before .loop in let a = s .args in let h = s .pre in let t = turn (flatExpr (h .0)) (a .entries .now) (a .bodies .now) (l .u) (l .v) (l .more) (c .before .before .before .loop-test .taken) (l .inv .0) (l .inv .1) (l .inv .2 (h .0) (h .1)) in omega (arith, t .within)
 
 cast-more : tie.Need-cast-more Inv-loop μ-loop
-cast-more c = let l = c .before .before .before .before .loop in let a = c .before .before .before .before .before .before .before .args in let h = c .before .before .before .before .before .before .before .pre in let t = turn (flatExpr (h .0)) (a .entries .now) (a .bodies .now) (l .u) (l .v) (l .more) (c .before .before .before .loop-test .taken) (l .inv .0) (l .inv .1) (l .inv .2 (h .0) (h .1)) in omega (arith, t .small)
+cast-more c =
+    let s : tie.Start Inv-loop μ-loop = search in
+    let l = c .before .before .before .before .loop in let a = s .args in let h = s .pre in let t = turn (flatExpr (h .0)) (a .entries .now) (a .bodies .now) (l .u) (l .v) (l .more) (c .before .before .before .loop-test .taken) (l .inv .0) (l .inv .1) (l .inv .2 (h .0) (h .1)) in omega (arith, t .small)
 
 add-more-2 : tie.Need-add-more-2 Inv-loop μ-loop
-add-more-2 c = let l = c .before .before .before .before .loop in let a = c .before .before .before .before .before .before .before .args in let h = c .before .before .before .before .before .before .before .pre in let t = turn (flatExpr (h .0)) (a .entries .now) (a .bodies .now) (l .u) (l .v) (l .more) (c .before .before .before .loop-test .taken) (l .inv .0) (l .inv .1) (l .inv .2 (h .0) (h .1)) in omega (arith, t .small)
+add-more-2 c =
+    let s : tie.Start Inv-loop μ-loop = search in
+    let l = c .before .before .before .before .loop in let a = s .args in let h = s .pre in let t = turn (flatExpr (h .0)) (a .entries .now) (a .bodies .now) (l .u) (l .v) (l .more) (c .before .before .before .loop-test .taken) (l .inv .0) (l .inv .1) (l .inv .2 (h .0) (h .1)) in omega (arith, t .small)
 
 add-u : tie.Need-add-u Inv-loop μ-loop
-add-u c = let l = c .before .before .before .before .loop in let a = c .before .before .before .before .before .before .before .args in let h = c .before .before .before .before .before .before .before .pre in let t = turn (flatExpr (h .0)) (a .entries .now) (a .bodies .now) (l .u) (l .v) (l .more) (c .before .before .before .loop-test .taken) (l .inv .0) (l .inv .1) (l .inv .2 (h .0) (h .1)) in omega (arith, t .within)
+add-u c =
+    let s : tie.Start Inv-loop μ-loop = search in
+    let l = c .before .before .before .before .loop in let a = s .args in let h = s .pre in let t = turn (flatExpr (h .0)) (a .entries .now) (a .bodies .now) (l .u) (l .v) (l .more) (c .before .before .before .loop-test .taken) (l .inv .0) (l .inv .1) (l .inv .2 (h .0) (h .1)) in omega (arith, t .within)
 
 loop-less : tie.Need-loop-less Inv-loop μ-loop
-loop-less c = let l = c .before .before .before .before .loop in let a = c .before .before .before .before .before .before .before .args in let h = c .before .before .before .before .before .before .before .pre in let t = turn (flatExpr (h .0)) (a .entries .now) (a .bodies .now) (l .u) (l .v) (l .more) (c .before .before .before .loop-test .taken) (l .inv .0) (l .inv .1) (l .inv .2 (h .0) (h .1)) in omega (arith, t .within)
+loop-less c =
+    let s : tie.Start Inv-loop μ-loop = search in
+    let l = c .before .before .before .before .loop in let a = s .args in let h = s .pre in let t = turn (flatExpr (h .0)) (a .entries .now) (a .bodies .now) (l .u) (l .v) (l .more) (c .before .before .before .loop-test .taken) (l .inv .0) (l .inv .1) (l .inv .2 (h .0) (h .1)) in omega (arith, t .within)
 
 loop-again : tie.Need-loop-again Inv-loop μ-loop
-loop-again c = let l = c .before .before .before .before .loop in let a = c .before .before .before .before .before .before .before .args in let h = c .before .before .before .before .before .before .before .pre in let t = turn (flatExpr (h .0)) (a .entries .now) (a .bodies .now) (l .u) (l .v) (l .more) (c .before .before .before .loop-test .taken) (l .inv .0) (l .inv .1) (l .inv .2 (h .0) (h .1)) in (t .within, rw (c .before .body-size .ensures) (t .bodies), λ e s. rw (c .before .body-size .ensures) (turn (flatExpr e) (a .entries .now) (a .bodies .now) (l .u) (l .v) (l .more) (c .before .before .before .loop-test .taken) (l .inv .0) (l .inv .1) (l .inv .2 e s) .left _ (omega (arith, c .before .before .before .loop-test .taken))))
+loop-again c =
+    let s : tie.Start Inv-loop μ-loop = search in
+    let l = c .before .before .before .before .loop in let a = s .args in let h = s .pre in let t = turn (flatExpr (h .0)) (a .entries .now) (a .bodies .now) (l .u) (l .v) (l .more) (c .before .before .before .loop-test .taken) (l .inv .0) (l .inv .1) (l .inv .2 (h .0) (h .1)) in (t .within, rw (c .before .body-size .ensures) (t .bodies), λ e s. rw (c .before .body-size .ensures) (turn (flatExpr e) (a .entries .now) (a .bodies .now) (l .u) (l .v) (l .more) (c .before .before .before .loop-test .taken) (l .inv .0) (l .inv .1) (l .inv .2 e s) .left _ (omega (arith, c .before .before .before .loop-test .taken))))
 
 returns : tie.Need-returns Inv-loop μ-loop
 returns c = λ e h. left-end (omega (arith, c .loop-test .left)) (c .before .loop .inv .2 e h)

@@ -6,13 +6,15 @@ use Rattle.sifv.proofs.table.has_key.Tie as tie
 
 returns : tie.Need-returns
 returns c =
-    let a = c .before .before .args in
-    has-none (a .s .now) (a .at) (a .n) (a .i) (a .key) (c .before .before .pre .1) (c .before .before .pre .2) (c .if1 .taken)
+    let s : tie.Start = search in
+    let a = s .args in
+    has-none (a .s .now) (a .at) (a .n) (a .i) (a .key) (s .pre .1) (s .pre .2) (c .if1 .taken)
 
 returns-2 : tie.Need-returns-2
 returns-2 c =
-    let a = c .before .before .before .before .args in
-    has-this (a .s .now) (a .at) (a .n) (a .i) (a .key) (c .before .before .before .before .pre .1) (c .before .before .before .before .pre .2) (c .before .before .if1 .left) (c .wide .ensures .0)
+    let s : tie.Start = search in
+    let a = s .args in
+    has-this (a .s .now) (a .at) (a .n) (a .i) (a .key) (s .pre .1) (s .pre .2) (c .before .before .if1 .left) (c .wide .ensures .0)
 
 pub has-key-spec : {M : Type 1} → statement M
 has-key-spec =

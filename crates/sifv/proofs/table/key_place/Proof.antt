@@ -19,13 +19,15 @@ abbrev μ-loop : tie.MeasureT-loop
 
 returns : tie.Need-returns Inv-loop μ-loop
 returns c =
-    let a = c .before .before .before .before .before .before .args in
-    place-found (a .s .now) (a .at) (a .n) (c .before .before .before .before .loop .i) (a .key) (c .before .before .before .before .before .before .pre .1) (c .before .before .before .before .loop .inv .1) (c .before .before .before .loop-test .taken) (c .before .wide .ensures .0) (c .if1 .taken)
+    let s : tie.Start Inv-loop μ-loop = search in
+    let a = s .args in
+    place-found (a .s .now) (a .at) (a .n) (c .before .before .before .before .loop .i) (a .key) (s .pre .1) (c .before .before .before .before .loop .inv .1) (c .before .before .before .loop-test .taken) (c .before .wide .ensures .0) (c .if1 .taken)
 
 loop-again : tie.Need-loop-again Inv-loop μ-loop
 loop-again c =
-    let a = c .before .before .before .before .before .before .args in
-    (omega arith, place-turn (a .s .now) (a .at) (a .n) (c .before .before .before .before .loop .i) (a .key) (c .before .before .before .before .before .before .pre .1) (c .before .before .before .before .loop .inv .1) (c .before .before .before .loop-test .taken) (c .before .wide .ensures .0) (c .if1 .left))
+    let s : tie.Start Inv-loop μ-loop = search in
+    let a = s .args in
+    (omega arith, place-turn (a .s .now) (a .at) (a .n) (c .before .before .before .before .loop .i) (a .key) (s .pre .1) (c .before .before .before .before .loop .inv .1) (c .before .before .before .loop-test .taken) (c .before .wide .ensures .0) (c .if1 .left))
 
 returns-2 : tie.Need-returns-2 Inv-loop μ-loop
 returns-2 c =

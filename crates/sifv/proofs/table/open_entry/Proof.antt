@@ -21,11 +21,12 @@ loop-holds c = (c .before .pre .1, omega arith, refl, sym (opened-none (c .befor
 
 loop-again : tie.Need-loop-again Inv-loop μ-loop
 loop-again c =
-    let a = c .before .before .before .before .before .before .before .before .before .args in
-    let l = c .before .before .before .before .before .before .before .loop in
+    let at-loop : tie.At-loop Inv-loop μ-loop = search in let s : tie.Start Inv-loop μ-loop = search in
+    let a = s .args in
+    let l = at-loop .loop in
     let e : l .j - 1 + 1 ≡ l .j = omega arith in
-    let q = open-turn (a .s .now) (a .at) (l .j - 1) (a .n) (c .before .before .before .before .before .before .before .before .before .pre .0) (c .before .before .before .before .before .before .before .before .before .pre .2) (omega arith) (l .inv .3 ∙ ap (λ (k : ℕ). splice (a .s .now) (a .at) (opened (part (a .s .now) (a .at) 256) k (a .n))) (sym e)) (l .inv .2) (c .before .before .before .before .move-u64 .ensures) refl refl in
-    (omega arith, omega arith, open-length (a .s .now) (a .at) (l .j - 1) (a .n) (c .before .before .before .before .before .before .before .before .before .pre .0) (c .before .before .before .before .before .before .before .before .before .pre .2) (omega arith) q, q)
+    let q = open-turn (a .s .now) (a .at) (l .j - 1) (a .n) (s .pre .0) (s .pre .2) (omega arith) (l .inv .3 ∙ ap (λ (k : ℕ). splice (a .s .now) (a .at) (opened (part (a .s .now) (a .at) 256) k (a .n))) (sym e)) (l .inv .2) (c .before .before .before .before .move-u64 .ensures) refl refl in
+    (omega arith, omega arith, open-length (a .s .now) (a .at) (l .j - 1) (a .n) (s .pre .0) (s .pre .2) (omega arith) q, q)
 
 returns : tie.Need-returns Inv-loop μ-loop
 returns c =

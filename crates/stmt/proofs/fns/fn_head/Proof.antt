@@ -14,55 +14,88 @@ shared-slice-read-count : tie.Need-shared-slice-read-count
 shared-slice-read-count c = omega (arith, fn-room (is-a-fn (c .before .before .before .before .pre .0) (c .before .before .before .before .pre .1)) .1)
 
 cast-count : tie.Need-cast-count
-cast-count c = omega (arith, fn-room (is-a-fn (c .before .before .before .before .pre .0) (c .before .before .before .before .pre .1)) .0, fn-room (is-a-fn (c .before .before .before .before .pre .0) (c .before .before .before .before .pre .1)) .2)
+cast-count c =
+    let s : tie.Start = search in
+    omega (arith, fn-room (is-a-fn (s .pre .0) (s .pre .1)) .0, fn-room (is-a-fn (s .pre .0) (s .pre .1)) .2)
 
 add-end : tie.Need-add-end
-add-end c = omega (arith, fn-room (is-a-fn (c .before .before .before .before .pre .0) (c .before .before .before .before .pre .1)) .0, fn-room (is-a-fn (c .before .before .before .before .pre .0) (c .before .before .before .before .pre .1)) .2)
+add-end c =
+    let s : tie.Start = search in
+    omega (arith, fn-room (is-a-fn (s .pre .0) (s .pre .1)) .0, fn-room (is-a-fn (s .pre .0) (s .pre .1)) .2)
 
 sub-nextregs : tie.Need-sub-nextregs
 sub-nextregs c = omega (arith, fn-room (is-a-fn (c .before .before .before .before .pre .0) (c .before .before .before .before .pre .1)) .0)
 
 shared-slice-read-push-fn : tie.Need-shared-slice-read-push-fn
-shared-slice-read-push-fn c = omega (arith, fn-room (is-a-fn (c .before .before .before .before .before .before .pre .0) (c .before .before .before .before .before .before .pre .1)) .2)
+shared-slice-read-push-fn c =
+    let s : tie.Start = search in
+    omega (arith, fn-room (is-a-fn (s .pre .0) (s .pre .1)) .2)
 
 add-push-fn : tie.Need-add-push-fn
-add-push-fn c = omega (arith, fn-room (is-a-fn (c .before .before .before .before .before .before .pre .0) (c .before .before .before .before .before .before .pre .1)) .2)
+add-push-fn c =
+    let s : tie.Start = search in
+    omega (arith, fn-room (is-a-fn (s .pre .0) (s .pre .1)) .2)
 
 sub-push-fn : tie.Need-sub-push-fn
-sub-push-fn c = omega (arith, fn-room (is-a-fn (c .before .before .before .before .before .before .pre .0) (c .before .before .before .before .before .before .pre .1)) .0, fn-room (is-a-fn (c .before .before .before .before .before .before .pre .0) (c .before .before .before .before .before .before .pre .1)) .2)
+sub-push-fn c =
+    let s : tie.Start = search in
+    omega (arith, fn-room (is-a-fn (s .pre .0) (s .pre .1)) .0, fn-room (is-a-fn (s .pre .0) (s .pre .1)) .2)
 
 part-push-fn-start : tie.Need-part-push-fn-start
-part-push-fn-start c = omega (arith, fn-room (is-a-fn (c .before .before .before .before .before .before .pre .0) (c .before .before .before .before .before .before .pre .1)) .0, fn-room (is-a-fn (c .before .before .before .before .before .before .pre .0) (c .before .before .before .before .before .before .pre .1)) .2)
+part-push-fn-start c =
+    let s : tie.Start = search in
+    omega (arith, fn-room (is-a-fn (s .pre .0) (s .pre .1)) .0, fn-room (is-a-fn (s .pre .0) (s .pre .1)) .2)
 
 part-push-fn-end : tie.Need-part-push-fn-end
-part-push-fn-end c = omega (arith, fn-room (is-a-fn (c .before .before .before .before .before .before .pre .0) (c .before .before .before .before .before .before .pre .1)) .0, fn-room (is-a-fn (c .before .before .before .before .before .before .pre .0) (c .before .before .before .before .before .before .pre .1)) .2)
+part-push-fn-end c =
+    let s : tie.Start = search in
+    omega (arith, fn-room (is-a-fn (s .pre .0) (s .pre .1)) .0, fn-room (is-a-fn (s .pre .0) (s .pre .1)) .2)
 
 push-fn-requires : tie.Need-push-fn-requires
-push-fn-requires c κs = (regs-ready (getD (c .before .before .before .before .before .before .before .before .args .contents .now) (c .before .before .before .before .before .before .before .before .args .p .cont + 1) 0 - 1) (c .before .before .before .before .before .before .before .before .pre .0 .ready) (c .before .before .before .nextregs .ensures), omega (arith, fn-names-length (is-a-fn (c .before .before .before .before .before .before .before .before .pre .0) (c .before .before .before .before .before .before .before .before .pre .1)), fn-room (is-a-fn (c .before .before .before .before .before .before .before .before .pre .0) (c .before .before .before .before .before .before .before .before .pre .1)) .0, c .before .before .before .before .shared-slice-known3 .given (c .before .before .before .before .before .before .before .before .args .p .cont + 1)))
+push-fn-requires c κs =
+    let s : tie.Start = search in
+    (regs-ready (getD (s .args .contents .now) (s .args .p .cont + 1) 0 - 1) (s .pre .0 .ready) (c .before .before .before .nextregs .ensures), omega (arith, fn-names-length (is-a-fn (s .pre .0) (s .pre .1)), fn-room (is-a-fn (s .pre .0) (s .pre .1)) .0, c .before .before .before .before .shared-slice-known3 .given (s .args .p .cont + 1)))
 
 add-pops : tie.Need-add-pops
-add-pops c = omega (arith, fn-room (is-a-fn (c .before .before .before .before .before .before .before .before .before .before .before .pre .0) (c .before .before .before .before .before .before .before .before .before .before .before .pre .1)) .2)
+add-pops c =
+    let s : tie.Start = search in
+    omega (arith, fn-room (is-a-fn (s .pre .0) (s .pre .1)) .2)
 
 sub-pops : tie.Need-sub-pops
-sub-pops c = omega (arith, fn-room (is-a-fn (c .before .before .before .before .before .before .before .before .before .before .before .pre .0) (c .before .before .before .before .before .before .before .before .before .before .before .pre .1)) .0, fn-room (is-a-fn (c .before .before .before .before .before .before .before .before .before .before .before .pre .0) (c .before .before .before .before .before .before .before .before .before .before .before .pre .1)) .2)
+sub-pops c =
+    let s : tie.Start = search in
+    omega (arith, fn-room (is-a-fn (s .pre .0) (s .pre .1)) .0, fn-room (is-a-fn (s .pre .0) (s .pre .1)) .2)
 
 part-pops-start : tie.Need-part-pops-start
-part-pops-start c = omega (arith, fn-room (is-a-fn (c .before .before .before .before .before .before .before .before .before .before .before .pre .0) (c .before .before .before .before .before .before .before .before .before .before .before .pre .1)) .0, fn-room (is-a-fn (c .before .before .before .before .before .before .before .before .before .before .before .pre .0) (c .before .before .before .before .before .before .before .before .before .before .before .pre .1)) .2)
+part-pops-start c =
+    let s : tie.Start = search in
+    omega (arith, fn-room (is-a-fn (s .pre .0) (s .pre .1)) .0, fn-room (is-a-fn (s .pre .0) (s .pre .1)) .2)
 
 part-pops-end : tie.Need-part-pops-end
-part-pops-end c = omega (arith, fn-room (is-a-fn (c .before .before .before .before .before .before .before .before .before .before .before .pre .0) (c .before .before .before .before .before .before .before .before .before .before .before .pre .1)) .0, fn-room (is-a-fn (c .before .before .before .before .before .before .before .before .before .before .before .pre .0) (c .before .before .before .before .before .before .before .before .before .before .before .pre .1)) .2)
+part-pops-end c =
+    let s : tie.Start = search in
+    omega (arith, fn-room (is-a-fn (s .pre .0) (s .pre .1)) .0, fn-room (is-a-fn (s .pre .0) (s .pre .1)) .2)
 
 pops-requires : tie.Need-pops-requires
-pops-requires c κs = (fn-ready (regs-ready (getD (c .before .before .before .before .before .before .before .before .before .before .before .before .before .args .contents .now) (c .before .before .before .before .before .before .before .before .before .before .before .before .before .args .p .cont + 1) 0 - 1) (c .before .before .before .before .before .before .before .before .before .before .before .before .before .pre .0 .ready) (c .before .before .before .before .before .before .before .before .nextregs .ensures)) (c .before .before .before .before .push-fn .ensures), omega (arith, fn-names-length (is-a-fn (c .before .before .before .before .before .before .before .before .before .before .before .before .before .pre .0) (c .before .before .before .before .before .before .before .before .before .before .before .before .before .pre .1)), fn-room (is-a-fn (c .before .before .before .before .before .before .before .before .before .before .before .before .before .pre .0) (c .before .before .before .before .before .before .before .before .before .before .before .before .before .pre .1)) .0, c .before .before .before .before .before .before .before .before .before .shared-slice-known3 .given (c .before .before .before .before .before .before .before .before .before .before .before .before .before .args .p .cont + 1)))
+pops-requires c κs =
+    let at-nextregs : tie.After-nextregs = search in let at-shared-slice-known3 : tie.After-shared-slice-known3 = search in
+    let s : tie.Start = search in
+    (fn-ready (regs-ready (getD (s .args .contents .now) (s .args .p .cont + 1) 0 - 1) (s .pre .0 .ready) (at-nextregs .nextregs .ensures)) (c .before .before .before .before .push-fn .ensures), omega (arith, fn-names-length (is-a-fn (s .pre .0) (s .pre .1)), fn-room (is-a-fn (s .pre .0) (s .pre .1)) .0, at-shared-slice-known3 .shared-slice-known3 .given (s .args .p .cont + 1)))
 
 mul-start : tie.Need-mul-start
-mul-start c = omega (arith, fn-room (is-a-fn (c .before .before .before .before .before .before .before .before .before .before .before .before .before .before .before .before .pre .0) (c .before .before .before .before .before .before .before .before .before .before .before .before .before .before .before .before .pre .1)) .0, fn-room (is-a-fn (c .before .before .before .before .before .before .before .before .before .before .before .before .before .before .before .before .pre .0) (c .before .before .before .before .before .before .before .before .before .before .before .before .before .before .before .before .pre .1)) .1, c .before .before .before .before .before .before .before .before .before .before .before .before .before .before .before .before .good .0 .0)
+mul-start c =
+    let s = c .before .before .before .before .before .before .before .before .before .before .before .before .before .before .before .before in
+    omega (arith, fn-room (is-a-fn (s .pre .0) (s .pre .1)) .0, fn-room (is-a-fn (s .pre .0) (s .pre .1)) .1, s .good .0 .0)
 
 add-start : tie.Need-add-start
-add-start c = omega (arith, fn-room (is-a-fn (c .before .before .before .before .before .before .before .before .before .before .before .before .before .before .before .before .pre .0) (c .before .before .before .before .before .before .before .before .before .before .before .before .before .before .before .before .pre .1)) .0, fn-room (is-a-fn (c .before .before .before .before .before .before .before .before .before .before .before .before .before .before .before .before .pre .0) (c .before .before .before .before .before .before .before .before .before .before .before .before .before .before .before .before .pre .1)) .1, c .before .before .before .before .before .before .before .before .before .before .before .before .before .before .before .before .good .0 .0)
+add-start c =
+    let s = c .before .before .before .before .before .before .before .before .before .before .before .before .before .before .before .before in
+    omega (arith, fn-room (is-a-fn (s .pre .0) (s .pre .1)) .0, fn-room (is-a-fn (s .pre .0) (s .pre .1)) .1, s .good .0 .0)
 
 returns : tie.Need-returns
-returns c = head-goes (c .before .before .before .before .before .before .before .before .before .before .before .before .before .before .before .before .before .args .contents .now) (c .before .before .before .before .before .before .before .before .before .before .before .before .before .before .before .before .before .args .bodies .now) (c .before .before .before .before .before .before .before .before .before .before .before .before .before .before .before .before .before .args .p) (c .before .before .before .before .before .before .before .before .before .before .before .before .before .before .before .before .before .pre .0 .ready) (c .before .before .before .before .before .before .before .before .before .before .before .before .nextregs .ensures) (c .before .before .before .before .before .before .before .before .push-fn .ensures) (c .before .before .before .pops .ensures) (c .start .ensures)
+returns c =
+    let at-push-fn : tie.After-push-fn = search in let at-nextregs : tie.After-nextregs = search in let s : tie.Start = search in
+    head-goes (s .args .contents .now) (s .args .bodies .now) (s .args .p) (s .pre .0 .ready) (at-nextregs .nextregs .ensures) (at-push-fn .push-fn .ensures) (c .before .before .before .pops .ensures) (c .start .ensures)
 
 pub fn-head-spec : {M : Type 1} → statement M
 fn-head-spec =

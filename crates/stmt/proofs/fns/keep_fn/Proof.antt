@@ -10,10 +10,14 @@ param-items-requires : tie.Need-param-items-requires
 param-items-requires c κs = let h = c .before .before .before .before .pre .0 (c .before .if1 .taken) in (h .1, c .before .before .before .before .pre .1 .1)
 
 put-record-requires : tie.Need-put-record-requires
-put-record-requires c κs = let h = c .before .before .before .before .before .before .before .before .pre .0 (c .before .before .before .before .before .if1 .taken) in omega (arith, h .0, c .before .before .before .before .before .before .before .before .pre .1 .1, ap length (c .before .before .before .param-items .ensures), length-params (c .before .before .before .before .before .before .before .before .args .low .items) (c .before .before .before .before .before .before .before .before .args .names .now) (c .before .before .before .before .before .before .before .before .args .out .now) (h .1) (c .before .before .before .before .before .before .before .before .pre .1 .1))
+put-record-requires c κs =
+    let then1 : tie.Then1 = search in let s : tie.Start = search in
+    let h = s .pre .0 (then1 .if1 .taken) in omega (arith, h .0, s .pre .1 .1, ap length (c .before .before .before .param-items .ensures), length-params (s .args .low .items) (s .args .names .now) (s .args .out .now) (h .1) (s .pre .1 .1))
 
 returns : tie.Need-returns
-returns c = rw (c .before .before .before .before .before .before .before .before .if1 .taken) (c .before .before .put-record .ensures ∙ rw (c .before .before .before .before .before .before .param-items .ensures))
+returns c =
+    let at-param-items : tie.After-param-items = search in let then1 : tie.Then1 = search in
+    rw (then1 .if1 .taken) (c .before .before .put-record .ensures ∙ rw (at-param-items .param-items .ensures))
 
 pub keep-fn-spec : {M : Type 1} → statement M
 keep-fn-spec =

@@ -18,10 +18,14 @@ abbrev μ-loop : tie.MeasureT-loop
 μ-loop names k out₀ i₀ out i = length names - i
 
 loop-holds : tie.Need-loop-holds Inv-loop μ-loop
-loop-holds c = (omega arith, refl, items-start (c .before .before .args .out .now) (c .before .before .args .k) (c .before .before .args .names .now))
+loop-holds c =
+    let s : tie.Start Inv-loop μ-loop = search in
+    (omega arith, refl, items-start (s .args .out .now) (s .args .k) (s .args .names .now))
 
 loop-again : tie.Need-loop-again Inv-loop μ-loop
-loop-again c = let l = c .before .before .before .before .before .before .before .loop in let a = c .before .before .before .before .before .before .before .before .before .before .args in (omega arith, item-length (l .out) (a .k + l .i) (Str (c .before .before .before .wide .result)) (omega arith) (c .before .before .put-item .ensures .0) ∙ l .inv .1, items-turn (l .out) (a .k) (l .i) (a .names .now) (omega arith) (omega arith) (c .before .before .before .wide .ensures .0) (c .before .before .put-item .ensures .0) ∙ l .inv .2)
+loop-again c =
+    let at-loop : tie.At-loop Inv-loop μ-loop = search in let s : tie.Start Inv-loop μ-loop = search in
+    let l = at-loop .loop in let a = s .args in (omega arith, item-length (l .out) (a .k + l .i) (Str (c .before .before .before .wide .result)) (omega arith) (c .before .before .put-item .ensures .0) ∙ l .inv .1, items-turn (l .out) (a .k) (l .i) (a .names .now) (omega arith) (omega arith) (c .before .before .before .wide .ensures .0) (c .before .before .put-item .ensures .0) ∙ l .inv .2)
 
 returns : tie.Need-returns Inv-loop μ-loop
 returns c = let l = c .before .loop in sym (items-end (l .out) (c .before .before .before .before .args .k) (l .i) (c .before .before .before .before .args .names .now) (c .loop-test .left)) ∙ l .inv .2

@@ -7,10 +7,14 @@ use Rattle.stmt.proofs.fns.pop.Statement.{statement}
 use Rattle.stmt.proofs.fns.pop.Tie as tie
 
 push-op-requires-2 : tie.Need-push-op-requires-2
-push-op-requires-2 c κs = let w = some-place (c .before .before .before .before .before .before .before .before .args .keep) (c .before .before .before .before .before .before .before .before .args .low .decls) in ready-did (c .before .before .before .before .before .before .before .before .pre) (c .before .before .before .before .push-op .ensures (w .0) (instr (c .before .before .before .before .before .before .before .before .args .lbl) (FnStackPop (c .before .before .before .before .before .before .before .before .args .r))) refl (ap fieldBytes (c .before .before .before .before .before .before .fields-of .ensures)) (w .1))
+push-op-requires-2 c κs =
+    let at-fields-of : tie.After-fields-of = search in let s : tie.Start = search in
+    let w = some-place (s .args .keep) (s .args .low .decls) in ready-did (s .pre) (c .before .before .before .before .push-op .ensures (w .0) (instr (s .args .lbl) (FnStackPop (s .args .r))) refl (ap fieldBytes (at-fields-of .fields-of .ensures)) (w .1))
 
 returns : tie.Need-returns
-returns c = λ w e. let d = c .before .before .before .before .before .before .before .push-op .ensures w (instr (c .before .before .before .before .before .before .before .before .before .before .before .args .lbl) (FnStackPop (c .before .before .before .before .before .before .before .before .before .before .before .args .r))) refl (ap fieldBytes (c .before .before .before .before .before .before .before .before .before .fields-of .ensures)) e in did-then d (c .before .before .push-op2 .ensures w (instr (c .before .before .before .before .before .before .before .before .before .before .before .args .lbl) (Str (c .before .before .before .before .before .before .before .before .before .before .before .args .r) (c .before .before .before .before .before .before .before .before .before .before .before .args .x))) refl (ap fieldBytes (c .before .before .before .before .fields-of2 .ensures)) (kept-did w e d))
+returns c =
+    let at-push-op : tie.After-push-op = search in let at-fields-of : tie.After-fields-of = search in let s : tie.Start = search in
+    λ w e. let d = at-push-op .push-op .ensures w (instr (s .args .lbl) (FnStackPop (s .args .r))) refl (ap fieldBytes (at-fields-of .fields-of .ensures)) e in did-then d (c .before .before .push-op2 .ensures w (instr (s .args .lbl) (Str (s .args .r) (s .args .x))) refl (ap fieldBytes (c .before .before .before .before .fields-of2 .ensures)) (kept-did w e d))
 
 pub pop-spec : {M : Type 1} → statement M
 pop-spec =

@@ -16,10 +16,14 @@ abbrev μ-loop : tie.MeasureT-loop
 μ-loop names reg keep lbl out₀ q₀ i₀ out q i = length names - i
 
 loop-holds : tie.Need-loop-holds Inv-loop μ-loop
-loop-holds c = (omega arith, refl, c .before .before .pre .0, pops-start (c .before .before .args .keep) (c .before .before .args .names .now) (c .before .before .args .reg) (c .before .before .args .lbl) (c .before .before .args .low) (c .before .before .args .out .now))
+loop-holds c =
+    let s : tie.Start Inv-loop μ-loop = search in
+    (omega arith, refl, s .pre .0, pops-start (s .args .keep) (s .args .names .now) (s .args .reg) (s .args .lbl) (s .args .low) (s .args .out .now))
 
 loop-again : tie.Need-loop-again Inv-loop μ-loop
-loop-again c = let l = c .before .before .before .before .before .before .before .loop in (omega arith, search needs, pop-ready (l .inv .2) (c .before .before .pop .ensures), pops-turn (c .before .before .before .before .before .low .result) _ (l .inv .3) (omega arith) (c .before .before .before .before .before .low .ensures) refl (c .before .before .pop .ensures))
+loop-again c =
+    let at-low : tie.After-low Inv-loop μ-loop = search in let at-loop : tie.At-loop Inv-loop μ-loop = search in
+    let l = at-loop .loop in (omega arith, search needs, pop-ready (l .inv .2) (c .before .before .pop .ensures), pops-turn (at-low .low .result) _ (l .inv .3) (omega arith) (at-low .low .ensures) refl (c .before .before .pop .ensures))
 
 returns : tie.Need-returns Inv-loop μ-loop
 returns c = let l = c .before .loop in pops-end (l .i) (l .inv .3) (c .loop-test .left)

@@ -10,10 +10,14 @@ returns-2 : tie.Need-returns-2
 returns-2 c = fn-full (c .before .before .before .if1 .left) (sym (c .before .before .is-full .ensures) ∙ c .before .if2 .taken) (c .refused .ensures)
 
 keep-fn-requires : tie.Need-keep-fn-requires
-keep-fn-requires c κs = let h = roomy (c .before .before .before .before .before .before .before .args .keep) (c .before .before .before .before .before .before .before .args .low) _ (sym (c .before .before .is-full .ensures) ∙ c .before .if2 .left) in ((λ e. let g = h .1 e in (omega (arith, g .0), g .1)), (c .before .before .before .before .before .before .before .pre .1, c .before .before .before .before .before .before .before .pre .0 .room))
+keep-fn-requires c κs =
+    let s : tie.Start = search in
+    let h = roomy (s .args .keep) (s .args .low) _ (sym (c .before .before .is-full .ensures) ∙ c .before .if2 .left) in ((λ e. let g = h .1 e in (omega (arith, g .0), g .1)), (s .pre .1, s .pre .0 .room))
 
 returns-3 : tie.Need-returns-3
-returns-3 c = fn-put (c .before .before .before .before .before .before .before .if1 .left) (sym (c .before .before .before .before .before .before .is-full .ensures) ∙ c .before .before .before .before .before .if2 .left) (c .count .ensures) (c .before .before .before .keep-fn .ensures)
+returns-3 c =
+    let else2 : tie.Else2 = search in let at-is-full : tie.After-is-full = search in let else1 : tie.Else1 = search in
+    fn-put (else1 .if1 .left) (sym (at-is-full .is-full .ensures) ∙ else2 .if2 .left) (c .count .ensures) (c .before .before .before .keep-fn .ensures)
 
 pub push-fn-spec : {M : Type 1} → statement M
 push-fn-spec =

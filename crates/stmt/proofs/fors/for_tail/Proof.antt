@@ -6,19 +6,34 @@ use Rattle.stmt.proofs.fors.for_tail.Statement.{statement}
 use Rattle.stmt.proofs.fors.for_tail.Tie as tie
 
 push-at-requires-2 : tie.Need-push-at-requires-2
-push-at-requires-2 c κs = emitted-ready (tail₁ (c .before .before .before .before .before .before .fields-of .ensures) (c .before .before .before .before .push-at .ensures)) (c .before .before .before .before .before .before .before .before .pre)
+push-at-requires-2 c κs =
+    let at-fields-of : tie.After-fields-of = search in let s : tie.Start = search in
+    emitted-ready (tail₁ (at-fields-of .fields-of .ensures) (c .before .before .before .before .push-at .ensures)) (s .pre)
 
 load-at-requires : tie.Need-load-at-requires
-load-at-requires c κs = emitted-ready (tail₂ (c .before .before .before .before .before .before .before .before .before .before .before .fields-of .ensures) (c .before .before .before .before .before .before .before .before .before .push-at .ensures) (c .before .before .before .before .before .before .fields-of2 .ensures) (c .before .before .before .before .push-at2 .ensures)) (c .before .before .before .before .before .before .before .before .before .before .before .before .before .pre)
+load-at-requires c κs =
+    let at-fields-of2 : tie.After-fields-of2 = search in let at-push-at : tie.After-push-at = search in
+    let at-fields-of : tie.After-fields-of = search in let s : tie.Start = search in
+    emitted-ready (tail₂ (at-fields-of .fields-of .ensures) (at-push-at .push-at .ensures) (at-fields-of2 .fields-of2 .ensures) (c .before .before .before .before .push-at2 .ensures)) (s .pre)
 
 push-at-requires-3 : tie.Need-push-at-requires-3
-push-at-requires-3 c κs = emitted-ready (tail₃ (c .before .before .before .before .before .before .before .before .before .before .before .before .before .before .before .before .fields-of .ensures) (c .before .before .before .before .before .before .before .before .before .before .before .before .before .before .push-at .ensures) (c .before .before .before .before .before .before .before .before .before .before .before .fields-of2 .ensures) (c .before .before .before .before .before .before .before .before .before .push-at2 .ensures) (c .before .before .before .before .before .before .fields-of3 .ensures) (c .before .before .before .before .load-at .ensures)) (c .before .before .before .before .before .before .before .before .before .before .before .before .before .before .before .before .before .before .pre)
+push-at-requires-3 c κs =
+    let at-fields-of3 : tie.After-fields-of3 = search in let at-push-at2 : tie.After-push-at2 = search in
+    let at-fields-of2 : tie.After-fields-of2 = search in let at-push-at : tie.After-push-at = search in
+    let at-fields-of : tie.After-fields-of = search in let s : tie.Start = search in
+    emitted-ready (tail₃ (at-fields-of .fields-of .ensures) (at-push-at .push-at .ensures) (at-fields-of2 .fields-of2 .ensures) (at-push-at2 .push-at2 .ensures) (at-fields-of3 .fields-of3 .ensures) (c .before .before .before .before .load-at .ensures)) (s .pre)
 
 same-length : tie.Need-same-length
-same-length c = c .before .before .push-at3 .kept .1 .1 .1 .0 ∙ c .before .before .before .before .before .before .before .load-at .kept .1 .1 .1 .0 ∙ c .before .before .before .before .before .before .before .before .before .before .before .before .push-at2 .kept .1 .1 .1 .0 ∙ c .before .before .before .before .before .before .before .before .before .before .before .before .before .before .before .before .before .push-at .kept .1 .1 .1 .0
+same-length c =
+    let at-load-at : tie.After-load-at = search in let at-push-at2 : tie.After-push-at2 = search in let at-push-at : tie.After-push-at = search in
+    c .before .before .push-at3 .kept .1 .1 .1 .0 ∙ at-load-at .load-at .kept .1 .1 .1 .0 ∙ at-push-at2 .push-at2 .kept .1 .1 .1 .0 ∙ at-push-at .push-at .kept .1 .1 .1 .0
 
 returns : tie.Need-returns
-returns c = tail₄ (c .before .before .before .before .before .before .before .before .before .before .before .before .before .before .before .before .before .before .before .fields-of .ensures) (c .before .before .before .before .before .before .before .before .before .before .before .before .before .before .before .before .before .push-at .ensures) (c .before .before .before .before .before .before .before .before .before .before .before .before .before .before .fields-of2 .ensures) (c .before .before .before .before .before .before .before .before .before .before .before .before .push-at2 .ensures) (c .before .before .before .before .before .before .before .before .before .fields-of3 .ensures) (c .before .before .before .before .before .before .before .load-at .ensures) (c .before .before .before .before .fields-of4 .ensures) (c .before .before .push-at3 .ensures)
+returns c =
+    let at-load-at : tie.After-load-at = search in let at-fields-of3 : tie.After-fields-of3 = search in
+    let at-push-at2 : tie.After-push-at2 = search in let at-fields-of2 : tie.After-fields-of2 = search in
+    let at-push-at : tie.After-push-at = search in let at-fields-of : tie.After-fields-of = search in
+    tail₄ (at-fields-of .fields-of .ensures) (at-push-at .push-at .ensures) (at-fields-of2 .fields-of2 .ensures) (at-push-at2 .push-at2 .ensures) (at-fields-of3 .fields-of3 .ensures) (at-load-at .load-at .ensures) (c .before .before .before .before .fields-of4 .ensures) (c .before .before .push-at3 .ensures)
 
 pub for-tail-spec : {M : Type 1} → statement M
 for-tail-spec =

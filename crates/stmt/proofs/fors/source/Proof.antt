@@ -8,13 +8,19 @@ shared-slice-read-if1 : tie.Need-shared-slice-read-if1
 shared-slice-read-if1 c = omega (arith, source-room (c .before .before .before .before .pre) .0)
 
 expr-at-requires : tie.Need-expr-at-requires
-expr-at-requires c κs = source-reads (c .before .before .before .before .before .before .pre) (c .before .if1 .left)
+expr-at-requires c κs =
+    let s : tie.Start = search in
+    source-reads (s .pre) (c .before .if1 .left)
 
 push-at-requires : tie.Need-push-at-requires
-push-at-requires c κs = call-ready (source-reads (c .before .before .before .before .before .before .before .before .before .before .before .before .pre) (c .before .before .before .before .before .before .before .if1 .left)) (c .before .before .before .before .before .expr-at .ensures)
+push-at-requires c κs =
+    let at-expr-at : tie.After-expr-at = search in let else1 : tie.Else1 = search in let s : tie.Start = search in
+    call-ready (source-reads (s .pre) (else1 .if1 .left)) (at-expr-at .expr-at .ensures)
 
 returns-2 : tie.Need-returns-2
-returns-2 c = call-goes (c .before .before .before .before .before .before .before .before .before .before .if1 .left) (c .before .before .before .before .before .before .before .before .expr-at .ensures) (rw (c .before .before .before .before .before .prevreg .ensures) at (c .before .before .before .before .fields-of .ensures)) (c .before .before .push-at .ensures)
+returns-2 c =
+    let at-prevreg : tie.After-prevreg = search in let at-expr-at : tie.After-expr-at = search in let else1 : tie.Else1 = search in
+    call-goes (else1 .if1 .left) (at-expr-at .expr-at .ensures) (rw (at-prevreg .prevreg .ensures) at (c .before .before .before .before .fields-of .ensures)) (c .before .before .push-at .ensures)
 
 pub source-spec : {M : Type 1} → statement M
 source-spec =

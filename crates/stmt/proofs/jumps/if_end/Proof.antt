@@ -9,7 +9,9 @@ nop-requires : tie.Need-nop-requires
 nop-requires c κs = rw (c .before .ended .ensures) (c .before .before .before .pre .0)
 
 returns : tie.Need-returns
-returns c = rw (ap (λ (d : Done). d .lbl) (c .before .before .before .before .ended .ensures)) at (label-first {p = c .before .before .before .before .before .before .args .p} (c .before .before .before .before .ended .ensures) (c .before .before .nop .ensures))
+returns c =
+    let s : tie.Start = search in
+    rw (ap (λ (d : Done). d .lbl) (c .before .before .before .before .ended .ensures)) at (label-first {p = s .args .p} (c .before .before .before .before .ended .ensures) (c .before .before .nop .ensures))
 
 pub if-end-spec : {M : Type 1} → statement M
 if-end-spec = tie.close (tie.spec (λ c κs. search needs) nop-requires (λ c. search needs) returns)

@@ -8,7 +8,9 @@ use Rattle.stmt.proofs.jumps.jump_false.Statement.{statement}
 use Rattle.stmt.proofs.jumps.jump_false.Tie as tie
 
 returns : tie.Need-returns
-returns c = label-next (emit-one (c .before .before .before .before .before .before .before .before .args .p .lbl) (JmpCnd Jmpf (prev (c .before .before .before .before .before .before .before .before .args .p .low .reg)) 0) refl (λ j. ap fieldBytes (rw (c .before .before .before .before .before .before .prevreg .ensures) at (c .before .before .before .before .before .fields-of .ensures))) (c .before .before .before .push-at .ensures)) (c .newlbl .ensures)
+returns c =
+    let at-fields-of : tie.After-fields-of = search in let at-prevreg : tie.After-prevreg = search in let s : tie.Start = search in
+    label-next (emit-one (s .args .p .lbl) (JmpCnd Jmpf (prev (s .args .p .low .reg)) 0) refl (λ j. ap fieldBytes (rw (at-prevreg .prevreg .ensures) at (at-fields-of .fields-of .ensures))) (c .before .before .before .push-at .ensures)) (c .newlbl .ensures)
 
 pub jump-false-spec : {M : Type 1} → statement M
 jump-false-spec =

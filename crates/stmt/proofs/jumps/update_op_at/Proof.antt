@@ -4,7 +4,9 @@ use Rattle.stmt.proofs.jumps.update_op_at.Statement.{statement}
 use Rattle.stmt.proofs.jumps.update_op_at.Tie as tie
 
 returns : tie.Need-returns
-returns c = rw (lt-ltb (c .before .before .before .before .before .before .before .before .before .args .a .recs) (c .before .before .before .before .before .before .before .before .before .args .b .recs) (c .before .before .before .before .before .if1 .taken)) (c .before .before .put-u64 .ensures)
+returns c =
+    let then1 : tie.Then1 = search in let s : tie.Start = search in
+    rw (lt-ltb (s .args .a .recs) (s .args .b .recs) (then1 .if1 .taken)) (c .before .before .put-u64 .ensures)
 
 returns-2 : tie.Need-returns-2
 returns-2 c = rw (le-ltb (c .before .before .before .before .args .a .recs) (c .before .before .before .before .args .b .recs) (c .if1 .left))

@@ -12,25 +12,43 @@ use Rattle.stmt.proofs.simple.ret.Statement.{statement}
 use Rattle.stmt.proofs.simple.ret.Tie as tie
 
 shared-slice-read-if1 : tie.Need-shared-slice-read-if1
-shared-slice-read-if1 c = omega (arith, stmt-room (c .before .before .before .before .before .args .contents .now) (c .before .before .before .before .before .args .bodies .now) (c .before .before .before .before .before .args .p) (c .before .before .before .before .before .pre .0))
+shared-slice-read-if1 c =
+    let s : tie.Start = search in
+    omega (arith, stmt-room (s .args .contents .now) (s .args .bodies .now) (s .args .p) (s .pre .0))
 
 fn-ret-requires : tie.Need-fn-ret-requires
-fn-ret-requires c κs = rw (c .before .before .before .pass .ensures) (c .before .before .before .before .before .before .before .pre .0 .ready)
+fn-ret-requires c κs =
+    let s : tie.Start = search in
+    rw (c .before .before .before .pass .ensures) (s .pre .0 .ready)
 
 returns : tie.Need-returns
-returns c = return-goes (c .before .before .before .before .before .before .before .before .before .before .args .contents .now) (c .before .before .before .before .before .before .before .before .before .before .args .bodies .now) (c .before .before .before .before .before .before .before .before .before .before .args .p) (c .before .before .before .before .before .before .pass .ensures) (c .before .before .before .before .before .before .before .before .before .before .pre .1) (c .before .before .before .before .if1 .taken) (c .before .before .fn-ret .ensures)
+returns c =
+    let at-pass : tie.After-pass = search in let s : tie.Start = search in
+    return-goes (s .args .contents .now) (s .args .bodies .now) (s .args .p) (at-pass .pass .ensures) (s .pre .1) (c .before .before .before .before .if1 .taken) (c .before .before .fn-ret .ensures)
 
 expr-at-requires : tie.Need-expr-at-requires
-expr-at-requires c κs = result-reads (c .before .before .before .before .before .before .before .args .contents .now) (c .before .before .before .before .before .before .before .args .bodies .now) (c .before .before .before .before .before .before .before .args .p) (c .before .before .before .pass .ensures) (c .before .before .before .before .before .before .before .pre .0) (c .before .before .before .before .before .before .before .pre .1) (c .before .if1 .left)
+expr-at-requires c κs =
+    let s : tie.Start = search in
+    result-reads (s .args .contents .now) (s .args .bodies .now) (s .args .p) (c .before .before .before .pass .ensures) (s .pre .0) (s .pre .1) (c .before .if1 .left)
 
 push-at-requires : tie.Need-push-at-requires
-push-at-requires c κs = goes-ready exprs (result-reads (c .before .before .before .before .before .before .before .before .before .before .before .before .before .args .contents .now) (c .before .before .before .before .before .before .before .before .before .before .before .before .before .args .bodies .now) (c .before .before .before .before .before .before .before .before .before .before .before .before .before .args .p) (c .before .before .before .before .before .before .before .before .before .pass .ensures) (c .before .before .before .before .before .before .before .before .before .before .before .before .before .pre .0) (c .before .before .before .before .before .before .before .before .before .before .before .before .before .pre .1) (c .before .before .before .before .before .before .before .if1 .left)) (c .before .before .before .before .before .expr-at .ensures)
+push-at-requires c κs =
+    let at-expr-at : tie.After-expr-at = search in let else1 : tie.Else1 = search in let at-pass : tie.After-pass = search in
+    let s : tie.Start = search in
+    goes-ready exprs (result-reads (s .args .contents .now) (s .args .bodies .now) (s .args .p) (at-pass .pass .ensures) (s .pre .0) (s .pre .1) (else1 .if1 .left)) (at-expr-at .expr-at .ensures)
 
 fn-ret-requires-2 : tie.Need-fn-ret-requires-2
-fn-ret-requires-2 c κs = emitted-ready (emit-one (c .before .before .before .before .before .before .before .before .before .before .before .before .before .before .before .before .before .args .p .lbl) (FnStackPush (prev (c .before .before .before .before .before .before .before .before .before .expr-at .result .low .reg))) refl (λ j. ap fieldBytes (rw (c .before .before .before .before .before .before .prevreg .ensures) at (c .before .before .before .before .before .fields-of .ensures))) (c .before .before .before .push-at .ensures)) (goes-ready exprs (result-reads (c .before .before .before .before .before .before .before .before .before .before .before .before .before .before .before .before .before .args .contents .now) (c .before .before .before .before .before .before .before .before .before .before .before .before .before .before .before .before .before .args .bodies .now) (c .before .before .before .before .before .before .before .before .before .before .before .before .before .before .before .before .before .args .p) (c .before .before .before .before .before .before .before .before .before .before .before .before .before .pass .ensures) (c .before .before .before .before .before .before .before .before .before .before .before .before .before .before .before .before .before .pre .0) (c .before .before .before .before .before .before .before .before .before .before .before .before .before .before .before .before .before .pre .1) (c .before .before .before .before .before .before .before .before .before .before .before .if1 .left)) (c .before .before .before .before .before .before .before .before .before .expr-at .ensures))
+fn-ret-requires-2 c κs =
+    let at-fields-of : tie.After-fields-of = search in let at-prevreg : tie.After-prevreg = search in let at-expr-at : tie.After-expr-at = search in
+    let else1 : tie.Else1 = search in let at-pass : tie.After-pass = search in let s : tie.Start = search in
+    emitted-ready (emit-one (s .args .p .lbl) (FnStackPush (prev (at-expr-at .expr-at .result .low .reg))) refl (λ j. ap fieldBytes (rw (at-prevreg .prevreg .ensures) at (at-fields-of .fields-of .ensures))) (c .before .before .before .push-at .ensures)) (goes-ready exprs (result-reads (s .args .contents .now) (s .args .bodies .now) (s .args .p) (at-pass .pass .ensures) (s .pre .0) (s .pre .1) (else1 .if1 .left)) (at-expr-at .expr-at .ensures))
 
 returns-2 : tie.Need-returns-2
-returns-2 c = result-pushed (c .before .before .before .before .before .before .before .before .before .before .before .before .before .before .before .before .before .before .before .before .args .contents .now) (c .before .before .before .before .before .before .before .before .before .before .before .before .before .before .before .before .before .before .before .before .args .bodies .now) (c .before .before .before .before .before .before .before .before .before .before .before .before .before .before .before .before .before .before .before .before .args .p) (c .before .before .before .before .before .before .before .before .before .before .before .before .before .before .before .before .pass .ensures) (c .before .before .before .before .before .before .before .before .before .before .before .before .before .before .before .before .before .before .before .before .pre .1) (c .before .before .before .before .before .before .before .before .before .before .before .before .before .before .if1 .left) (c .before .before .before .before .before .before .before .before .before .before .before .before .expr-at .ensures) (rw (c .before .before .before .before .before .before .before .before .before .prevreg .ensures) at (c .before .before .before .before .before .before .before .before .fields-of .ensures)) (c .before .before .before .before .before .before .push-at .ensures) (c .before .before .fn-ret2 .ensures)
+returns-2 c =
+    let at-push-at : tie.After-push-at = search in let at-fields-of : tie.After-fields-of = search in let at-prevreg : tie.After-prevreg = search in
+    let at-expr-at : tie.After-expr-at = search in let else1 : tie.Else1 = search in let at-pass : tie.After-pass = search in
+    let s : tie.Start = search in
+    result-pushed (s .args .contents .now) (s .args .bodies .now) (s .args .p) (at-pass .pass .ensures) (s .pre .1) (else1 .if1 .left) (at-expr-at .expr-at .ensures) (rw (at-prevreg .prevreg .ensures) at (at-fields-of .fields-of .ensures)) (at-push-at .push-at .ensures) (c .before .before .fn-ret2 .ensures)
 
 pub ret-spec : {M : Type 1} → statement M
 ret-spec =
