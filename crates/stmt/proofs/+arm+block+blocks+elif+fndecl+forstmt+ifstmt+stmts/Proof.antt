@@ -143,191 +143,364 @@ abbrev stmts-claims : ℕ → stmts-lts.Claims
 stmts-claims t = (below block-kinds.ps μ-block block.Pre t, block.Post)
 
 arm-expr-at-requires : (t : ℕ) → arm-lts.Need-expr-at-requires (arm-claims t) (arm-at t) arm.Post
-arm-expr-at-requires t c κs = arm-reads (c .before .before .before .before .args .n) (c .before .before .before .before .args .rest) (c .before .before .before .before .args .contents .now) (c .before .before .before .before .args .bodies .now) (c .before .before .before .before .args .p) (c .before .before .before .before .pre .1)
+arm-expr-at-requires t c κs =
+    let s : arm-lts.Start (arm-claims t) (arm-at t) arm.Post = search in
+    arm-reads (s .args .n) (s .args .rest) (s .args .contents .now) (s .args .bodies .now) (s .args .p) (s .pre .1)
 
 arm-jump-false-requires : (t : ℕ) → arm-lts.Need-jump-false-requires (arm-claims t) (arm-at t) arm.Post
-arm-jump-false-requires t c κs = (test-ready (c .before .before .before .before .before .before .before .before .args .n) (c .before .before .before .before .before .before .before .before .args .rest) (c .before .before .before .before .before .before .before .before .args .contents .now) (c .before .before .before .before .before .before .before .before .args .bodies .now) (c .before .before .before .before .before .before .before .before .args .p) (c .before .before .before .before .before .before .before .before .pre .1) (c .before .before .before .expr-at .ensures), test-label (c .before .before .before .before .before .before .before .before .args .n) (c .before .before .before .before .before .before .before .before .args .rest) (c .before .before .before .before .before .before .before .before .args .contents .now) (c .before .before .before .before .before .before .before .before .args .bodies .now) (c .before .before .before .before .before .before .before .before .args .p) (c .before .before .before .before .before .before .before .before .pre .1) (c .before .before .before .expr-at .ensures))
+arm-jump-false-requires t c κs =
+    let s : arm-lts.Start (arm-claims t) (arm-at t) arm.Post = search in
+    (test-ready (s .args .n) (s .args .rest) (s .args .contents .now) (s .args .bodies .now) (s .args .p) (s .pre .1) (c .before .before .before .expr-at .ensures), test-label (s .args .n) (s .args .rest) (s .args .contents .now) (s .args .bodies .now) (s .args .p) (s .pre .1) (c .before .before .before .expr-at .ensures))
 
 arm-block-requires : (t : ℕ) → arm-lts.Need-block-requires (arm-claims t) (arm-at t) arm.Post
-arm-block-requires t c κs = (omega (arith, c .before .before .before .before .before .before .before .before .before .before .before .before .pre .0, arm-falls (c .before .before .before .before .before .before .before .before .before .before .before .before .args .n) (c .before .before .before .before .before .before .before .before .before .before .before .before .args .rest) (c .before .before .before .before .before .before .before .before .before .before .before .before .args .contents .now) (c .before .before .before .before .before .before .before .before .before .before .before .before .args .bodies .now) (c .before .before .before .before .before .before .before .before .before .before .before .before .args .p) (c .before .before .before .before .before .before .before .before .before .before .before .before .pre .1) (c .before .before .before .before .before .before .before .expr-at .ensures) (c .before .before .before .jump-false .ensures) .0, arm-falls (c .before .before .before .before .before .before .before .before .before .before .before .before .args .n) (c .before .before .before .before .before .before .before .before .before .before .before .before .args .rest) (c .before .before .before .before .before .before .before .before .before .before .before .before .args .contents .now) (c .before .before .before .before .before .before .before .before .before .before .before .before .args .bodies .now) (c .before .before .before .before .before .before .before .before .before .before .before .before .args .p) (c .before .before .before .before .before .before .before .before .before .before .before .before .pre .1) (c .before .before .before .before .before .before .before .expr-at .ensures) (c .before .before .before .jump-false .ensures) .1), arm-block-reads (c .before .before .before .before .before .before .before .before .before .before .before .before .args .n) (c .before .before .before .before .before .before .before .before .before .before .before .before .args .rest) (c .before .before .before .before .before .before .before .before .before .before .before .before .args .contents .now) (c .before .before .before .before .before .before .before .before .before .before .before .before .args .bodies .now) (c .before .before .before .before .before .before .before .before .before .before .before .before .args .p) (c .before .before .before .before .before .before .before .before .before .before .before .before .pre .1) (c .before .before .before .before .before .before .before .expr-at .ensures) (c .before .before .before .jump-false .ensures))
+arm-block-requires t c κs =
+    let at-jump-false : arm-lts.After-jump-false (arm-claims t) (arm-at t) arm.Post = search in
+    let at-expr-at : arm-lts.After-expr-at (arm-claims t) (arm-at t) arm.Post = search in
+    let s : arm-lts.Start (arm-claims t) (arm-at t) arm.Post = search in
+    (omega (arith, s .pre .0, arm-falls (s .args .n) (s .args .rest) (s .args .contents .now) (s .args .bodies .now) (s .args .p) (s .pre .1) (at-expr-at .expr-at .ensures) (at-jump-false .jump-false .ensures) .0, arm-falls (s .args .n) (s .args .rest) (s .args .contents .now) (s .args .bodies .now) (s .args .p) (s .pre .1) (at-expr-at .expr-at .ensures) (at-jump-false .jump-false .ensures) .1), arm-block-reads (s .args .n) (s .args .rest) (s .args .contents .now) (s .args .bodies .now) (s .args .p) (s .pre .1) (at-expr-at .expr-at .ensures) (at-jump-false .jump-false .ensures))
 
 arm-jump-end-requires : (t : ℕ) → arm-lts.Need-jump-end-requires (arm-claims t) (arm-at t) arm.Post
-arm-jump-end-requires t c κs = (block-ready (c .before .before .before .before .before .before .before .before .before .before .before .before .before .before .before .before .args .n) (c .before .before .before .before .before .before .before .before .before .before .before .before .before .before .before .before .args .rest) (c .before .before .before .before .before .before .before .before .before .before .before .before .before .before .before .before .args .contents .now) (c .before .before .before .before .before .before .before .before .before .before .before .before .before .before .before .before .args .bodies .now) (c .before .before .before .before .before .before .before .before .before .before .before .before .before .before .before .before .args .p) (c .before .before .before .before .before .before .before .before .before .before .before .before .before .before .before .before .pre .1) (c .before .before .before .before .before .before .before .before .before .before .before .expr-at .ensures) (c .before .before .before .before .before .before .before .jump-false .ensures) (c .before .before .before .block .ensures), block-room (c .before .before .before .before .before .before .before .before .before .before .before .before .before .before .before .before .args .n) (c .before .before .before .before .before .before .before .before .before .before .before .before .before .before .before .before .args .rest) (c .before .before .before .before .before .before .before .before .before .before .before .before .before .before .before .before .args .contents .now) (c .before .before .before .before .before .before .before .before .before .before .before .before .before .before .before .before .args .bodies .now) (c .before .before .before .before .before .before .before .before .before .before .before .before .before .before .before .before .args .p) (c .before .before .before .before .before .before .before .before .before .before .before .before .before .before .before .before .pre .1) (c .before .before .before .before .before .before .before .before .before .before .before .expr-at .ensures) (c .before .before .before .before .before .before .before .jump-false .ensures) (c .before .before .before .block .ensures))
+arm-jump-end-requires t c κs =
+    let at-jump-false : arm-lts.After-jump-false (arm-claims t) (arm-at t) arm.Post = search in
+    let at-expr-at : arm-lts.After-expr-at (arm-claims t) (arm-at t) arm.Post = search in
+    let s : arm-lts.Start (arm-claims t) (arm-at t) arm.Post = search in
+    (block-ready (s .args .n) (s .args .rest) (s .args .contents .now) (s .args .bodies .now) (s .args .p) (s .pre .1) (at-expr-at .expr-at .ensures) (at-jump-false .jump-false .ensures) (c .before .before .before .block .ensures), block-room (s .args .n) (s .args .rest) (s .args .contents .now) (s .args .bodies .now) (s .args .p) (s .pre .1) (at-expr-at .expr-at .ensures) (at-jump-false .jump-false .ensures) (c .before .before .before .block .ensures))
 
 arm-update-op-at-requires : (t : ℕ) → arm-lts.Need-update-op-at-requires (arm-claims t) (arm-at t) arm.Post
-arm-update-op-at-requires t c κs = (jump-ready (c .before .before .before .before .before .before .before .before .before .before .before .before .before .before .before .before .before .before .before .before .args .n) (c .before .before .before .before .before .before .before .before .before .before .before .before .before .before .before .before .before .before .before .before .args .rest) (c .before .before .before .before .before .before .before .before .before .before .before .before .before .before .before .before .before .before .before .before .args .contents .now) (c .before .before .before .before .before .before .before .before .before .before .before .before .before .before .before .before .before .before .before .before .args .bodies .now) (c .before .before .before .before .before .before .before .before .before .before .before .before .before .before .before .before .before .before .before .before .args .p) (c .before .before .before .before .before .before .before .before .before .before .before .before .before .before .before .before .before .before .before .before .pre .1) (c .before .before .before .before .before .before .before .before .before .before .before .before .before .before .before .expr-at .ensures) (c .before .before .before .before .before .before .before .before .before .before .before .jump-false .ensures) .records, end-ready (c .before .before .before .before .before .before .before .before .before .before .before .before .before .before .before .before .before .before .before .before .args .n) (c .before .before .before .before .before .before .before .before .before .before .before .before .before .before .before .before .before .before .before .before .args .rest) (c .before .before .before .before .before .before .before .before .before .before .before .before .before .before .before .before .before .before .before .before .args .contents .now) (c .before .before .before .before .before .before .before .before .before .before .before .before .before .before .before .before .before .before .before .before .args .bodies .now) (c .before .before .before .before .before .before .before .before .before .before .before .before .before .before .before .before .before .before .before .before .args .p) (c .before .before .before .before .before .before .before .before .before .before .before .before .before .before .before .before .before .before .before .before .pre .1) (c .before .before .before .before .before .before .before .before .before .before .before .before .before .before .before .expr-at .ensures) (c .before .before .before .before .before .before .before .before .before .before .before .jump-false .ensures) (c .before .before .before .before .before .before .before .block .ensures) (c .before .before .before .jump-end .ensures) .room)
+arm-update-op-at-requires t c κs =
+    let at-block : arm-lts.After-block (arm-claims t) (arm-at t) arm.Post = search in
+    let at-jump-false : arm-lts.After-jump-false (arm-claims t) (arm-at t) arm.Post = search in
+    let at-expr-at : arm-lts.After-expr-at (arm-claims t) (arm-at t) arm.Post = search in
+    let s : arm-lts.Start (arm-claims t) (arm-at t) arm.Post = search in
+    (jump-ready (s .args .n) (s .args .rest) (s .args .contents .now) (s .args .bodies .now) (s .args .p) (s .pre .1) (at-expr-at .expr-at .ensures) (at-jump-false .jump-false .ensures) .records, end-ready (s .args .n) (s .args .rest) (s .args .contents .now) (s .args .bodies .now) (s .args .p) (s .pre .1) (at-expr-at .expr-at .ensures) (at-jump-false .jump-false .ensures) (at-block .block .ensures) (c .before .before .before .jump-end .ensures) .room)
 
 arm-elif-requires : (t : ℕ) → arm-lts.Need-elif-requires (arm-claims t) (arm-at t) arm.Post
-arm-elif-requires t c κs = (omega (arith, c .before .before .before .before .before .before .before .before .before .before .before .before .before .before .before .before .before .before .before .before .before .before .before .before .pre .0, rest-falls (c .before .before .before .before .before .before .before .before .before .before .before .before .before .before .before .before .before .before .before .before .before .before .before .before .args .n) (c .before .before .before .before .before .before .before .before .before .before .before .before .before .before .before .before .before .before .before .before .before .before .before .before .args .rest) (c .before .before .before .before .before .before .before .before .before .before .before .before .before .before .before .before .before .before .before .before .before .before .before .before .args .contents .now) (c .before .before .before .before .before .before .before .before .before .before .before .before .before .before .before .before .before .before .before .before .before .before .before .before .args .bodies .now) (c .before .before .before .before .before .before .before .before .before .before .before .before .before .before .before .before .before .before .before .before .before .before .before .before .args .p) (c .before .before .before .before .before .before .before .before .before .before .before .before .before .before .before .before .before .before .before .before .before .before .before .before .pre .1) (c .before .before .before .before .before .before .before .before .before .before .before .before .before .before .before .before .before .before .before .expr-at .ensures) (c .before .before .before .before .before .before .before .before .before .before .before .before .before .before .before .jump-false .ensures) (c .before .before .before .before .before .before .before .before .before .before .before .block .ensures) (c .before .before .before .before .before .before .before .jump-end .ensures) .0, rest-falls (c .before .before .before .before .before .before .before .before .before .before .before .before .before .before .before .before .before .before .before .before .before .before .before .before .args .n) (c .before .before .before .before .before .before .before .before .before .before .before .before .before .before .before .before .before .before .before .before .before .before .before .before .args .rest) (c .before .before .before .before .before .before .before .before .before .before .before .before .before .before .before .before .before .before .before .before .before .before .before .before .args .contents .now) (c .before .before .before .before .before .before .before .before .before .before .before .before .before .before .before .before .before .before .before .before .before .before .before .before .args .bodies .now) (c .before .before .before .before .before .before .before .before .before .before .before .before .before .before .before .before .before .before .before .before .before .before .before .before .args .p) (c .before .before .before .before .before .before .before .before .before .before .before .before .before .before .before .before .before .before .before .before .before .before .before .before .pre .1) (c .before .before .before .before .before .before .before .before .before .before .before .before .before .before .before .before .before .before .before .expr-at .ensures) (c .before .before .before .before .before .before .before .before .before .before .before .before .before .before .before .jump-false .ensures) (c .before .before .before .before .before .before .before .before .before .before .before .block .ensures) (c .before .before .before .before .before .before .before .jump-end .ensures) .1), rest-reads (c .before .before .before .before .before .before .before .before .before .before .before .before .before .before .before .before .before .before .before .before .before .before .before .before .args .n) (c .before .before .before .before .before .before .before .before .before .before .before .before .before .before .before .before .before .before .before .before .before .before .before .before .args .rest) (c .before .before .before .before .before .before .before .before .before .before .before .before .before .before .before .before .before .before .before .before .before .before .before .before .args .contents .now) (c .before .before .before .before .before .before .before .before .before .before .before .before .before .before .before .before .before .before .before .before .before .before .before .before .args .bodies .now) (c .before .before .before .before .before .before .before .before .before .before .before .before .before .before .before .before .before .before .before .before .before .before .before .before .args .p) (c .before .before .before .before .before .before .before .before .before .before .before .before .before .before .before .before .before .before .before .before .before .before .before .before .pre .1) (c .before .before .before .before .before .before .before .before .before .before .before .before .before .before .before .before .before .before .before .expr-at .ensures) (c .before .before .before .before .before .before .before .before .before .before .before .before .before .before .before .jump-false .ensures) (c .before .before .before .before .before .before .before .before .before .before .before .block .ensures) (c .before .before .before .before .before .before .before .jump-end .ensures) (c .before .before .before .update-op-at .kept .1 .1 .1 .0))
+arm-elif-requires t c κs =
+    let at-jump-end : arm-lts.After-jump-end (arm-claims t) (arm-at t) arm.Post = search in
+    let at-block : arm-lts.After-block (arm-claims t) (arm-at t) arm.Post = search in
+    let at-jump-false : arm-lts.After-jump-false (arm-claims t) (arm-at t) arm.Post = search in
+    let at-expr-at : arm-lts.After-expr-at (arm-claims t) (arm-at t) arm.Post = search in
+    let s : arm-lts.Start (arm-claims t) (arm-at t) arm.Post = search in
+    (omega (arith, s .pre .0, rest-falls (s .args .n) (s .args .rest) (s .args .contents .now) (s .args .bodies .now) (s .args .p) (s .pre .1) (at-expr-at .expr-at .ensures) (at-jump-false .jump-false .ensures) (at-block .block .ensures) (at-jump-end .jump-end .ensures) .0, rest-falls (s .args .n) (s .args .rest) (s .args .contents .now) (s .args .bodies .now) (s .args .p) (s .pre .1) (at-expr-at .expr-at .ensures) (at-jump-false .jump-false .ensures) (at-block .block .ensures) (at-jump-end .jump-end .ensures) .1), rest-reads (s .args .n) (s .args .rest) (s .args .contents .now) (s .args .bodies .now) (s .args .p) (s .pre .1) (at-expr-at .expr-at .ensures) (at-jump-false .jump-false .ensures) (at-block .block .ensures) (at-jump-end .jump-end .ensures) (c .before .before .before .update-op-at .kept .1 .1 .1 .0))
 
 arm-update-op-at-requires-2 : (t : ℕ) → arm-lts.Need-update-op-at-requires-2 (arm-claims t) (arm-at t) arm.Post
-arm-update-op-at-requires-2 t c κs = (end-ready (c .before .before .before .before .before .before .before .before .before .before .before .before .before .before .before .before .before .before .before .before .before .before .before .before .before .before .before .before .args .n) (c .before .before .before .before .before .before .before .before .before .before .before .before .before .before .before .before .before .before .before .before .before .before .before .before .before .before .before .before .args .rest) (c .before .before .before .before .before .before .before .before .before .before .before .before .before .before .before .before .before .before .before .before .before .before .before .before .before .before .before .before .args .contents .now) (c .before .before .before .before .before .before .before .before .before .before .before .before .before .before .before .before .before .before .before .before .before .before .before .before .before .before .before .before .args .bodies .now) (c .before .before .before .before .before .before .before .before .before .before .before .before .before .before .before .before .before .before .before .before .before .before .before .before .before .before .before .before .args .p) (c .before .before .before .before .before .before .before .before .before .before .before .before .before .before .before .before .before .before .before .before .before .before .before .before .before .before .before .before .pre .1) (c .before .before .before .before .before .before .before .before .before .before .before .before .before .before .before .before .before .before .before .before .before .before .before .expr-at .ensures) (c .before .before .before .before .before .before .before .before .before .before .before .before .before .before .before .before .before .before .before .jump-false .ensures) (c .before .before .before .before .before .before .before .before .before .before .before .before .before .before .before .block .ensures) (c .before .before .before .before .before .before .before .before .before .before .before .jump-end .ensures) .records, rest-ready (c .before .before .before .before .before .before .before .before .before .before .before .before .before .before .before .before .before .before .before .before .before .before .before .before .before .before .before .before .args .n) (c .before .before .before .before .before .before .before .before .before .before .before .before .before .before .before .before .before .before .before .before .before .before .before .before .before .before .before .before .args .rest) (c .before .before .before .before .before .before .before .before .before .before .before .before .before .before .before .before .before .before .before .before .before .before .before .before .before .before .before .before .args .contents .now) (c .before .before .before .before .before .before .before .before .before .before .before .before .before .before .before .before .before .before .before .before .before .before .before .before .before .before .before .before .args .bodies .now) (c .before .before .before .before .before .before .before .before .before .before .before .before .before .before .before .before .before .before .before .before .before .before .before .before .before .before .before .before .args .p) (c .before .before .before .before .before .before .before .before .before .before .before .before .before .before .before .before .before .before .before .before .before .before .before .before .before .before .before .before .pre .1) (c .before .before .before .before .before .before .before .before .before .before .before .before .before .before .before .before .before .before .before .before .before .before .before .expr-at .ensures) (c .before .before .before .before .before .before .before .before .before .before .before .before .before .before .before .before .before .before .before .jump-false .ensures) (c .before .before .before .before .before .before .before .before .before .before .before .before .before .before .before .block .ensures) (c .before .before .before .before .before .before .before .before .before .before .before .jump-end .ensures) (c .before .before .before .before .before .before .before .update-op-at .kept .1 .1 .1 .0) (c .before .before .before .elif .ensures) .room)
+arm-update-op-at-requires-2 t c κs =
+    let at-update-op-at : arm-lts.After-update-op-at (arm-claims t) (arm-at t) arm.Post = search in
+    let at-jump-end : arm-lts.After-jump-end (arm-claims t) (arm-at t) arm.Post = search in
+    let at-block : arm-lts.After-block (arm-claims t) (arm-at t) arm.Post = search in
+    let at-jump-false : arm-lts.After-jump-false (arm-claims t) (arm-at t) arm.Post = search in
+    let at-expr-at : arm-lts.After-expr-at (arm-claims t) (arm-at t) arm.Post = search in
+    let s : arm-lts.Start (arm-claims t) (arm-at t) arm.Post = search in
+    (end-ready (s .args .n) (s .args .rest) (s .args .contents .now) (s .args .bodies .now) (s .args .p) (s .pre .1) (at-expr-at .expr-at .ensures) (at-jump-false .jump-false .ensures) (at-block .block .ensures) (at-jump-end .jump-end .ensures) .records, rest-ready (s .args .n) (s .args .rest) (s .args .contents .now) (s .args .bodies .now) (s .args .p) (s .pre .1) (at-expr-at .expr-at .ensures) (at-jump-false .jump-false .ensures) (at-block .block .ensures) (at-jump-end .jump-end .ensures) (at-update-op-at .update-op-at .kept .1 .1 .1 .0) (c .before .before .before .elif .ensures) .room)
 
 arm-same-length : (t : ℕ) → arm-lts.Need-same-length (arm-claims t) (arm-at t) arm.Post
-arm-same-length t c = c .before .before .update-op-at2 .kept .1 .1 .1 .0 ∙ c .before .before .before .before .before .before .elif .kept .1 .1 .1 .1 .1 .1 .0 ∙ c .before .before .before .before .before .before .before .before .before .before .update-op-at .kept .1 .1 .1 .0 ∙ c .before .before .before .before .before .before .before .before .before .before .before .before .before .before .jump-end .kept .1 .1 .0 ∙ c .before .before .before .before .before .before .before .before .before .before .before .before .before .before .before .before .before .before .block .kept .1 .1 .1 .1 .0 ∙ c .before .before .before .before .before .before .before .before .before .before .before .before .before .before .before .before .before .before .before .before .before .before .jump-false .kept .1 .1 .0 ∙ c .before .before .before .before .before .before .before .before .before .before .before .before .before .before .before .before .before .before .before .before .before .before .before .before .before .before .expr-at .kept .1 .1 .1 .1 .0
+arm-same-length t c =
+    let at-elif : arm-lts.After-elif (arm-claims t) (arm-at t) arm.Post = search in
+    let at-update-op-at : arm-lts.After-update-op-at (arm-claims t) (arm-at t) arm.Post = search in
+    let at-jump-end : arm-lts.After-jump-end (arm-claims t) (arm-at t) arm.Post = search in
+    let at-block : arm-lts.After-block (arm-claims t) (arm-at t) arm.Post = search in
+    let at-jump-false : arm-lts.After-jump-false (arm-claims t) (arm-at t) arm.Post = search in
+    let at-expr-at : arm-lts.After-expr-at (arm-claims t) (arm-at t) arm.Post = search in
+    c .before .before .update-op-at2 .kept .1 .1 .1 .0 ∙ at-elif .elif .kept .1 .1 .1 .1 .1 .1 .0 ∙ at-update-op-at .update-op-at .kept .1 .1 .1 .0 ∙ at-jump-end .jump-end .kept .1 .1 .0 ∙ at-block .block .kept .1 .1 .1 .1 .0 ∙ at-jump-false .jump-false .kept .1 .1 .0 ∙ at-expr-at .expr-at .kept .1 .1 .1 .1 .0
 
 arm-returns : (t : ℕ) → arm-lts.Need-returns (arm-claims t) (arm-at t) arm.Post
-arm-returns t c = arm-goes (c .before .before .before .before .before .before .before .before .before .before .before .before .before .before .before .before .before .before .before .before .before .before .before .before .before .before .before .before .before .before .before .args .n) (c .before .before .before .before .before .before .before .before .before .before .before .before .before .before .before .before .before .before .before .before .before .before .before .before .before .before .before .before .before .before .before .args .rest) (c .before .before .before .before .before .before .before .before .before .before .before .before .before .before .before .before .before .before .before .before .before .before .before .before .before .before .before .before .before .before .before .args .contents .now) (c .before .before .before .before .before .before .before .before .before .before .before .before .before .before .before .before .before .before .before .before .before .before .before .before .before .before .before .before .before .before .before .args .bodies .now) (c .before .before .before .before .before .before .before .before .before .before .before .before .before .before .before .before .before .before .before .before .before .before .before .before .before .before .before .before .before .before .before .args .p) (c .before .before .before .before .before .before .before .before .before .before .before .before .before .before .before .before .before .before .before .before .before .before .before .before .before .before .before .before .before .before .before .pre .1 .ready) (c .before .before .before .before .before .before .before .before .before .before .before .before .before .before .before .before .before .before .before .before .before .before .before .before .before .before .expr-at .ensures) (c .before .before .before .before .before .before .before .before .before .before .before .before .before .before .before .before .before .before .before .before .before .before .jump-false .ensures) (c .before .before .before .before .before .before .before .before .before .before .before .before .before .before .before .before .before .before .block .ensures) (c .before .before .before .before .before .before .before .before .before .before .before .before .before .before .jump-end .ensures) (c .before .before .before .before .before .before .before .before .before .before .update-op-at .ensures) (c .before .before .before .before .before .before .elif .ensures) (c .before .before .update-op-at2 .ensures)
+arm-returns t c =
+    let at-elif : arm-lts.After-elif (arm-claims t) (arm-at t) arm.Post = search in
+    let at-update-op-at : arm-lts.After-update-op-at (arm-claims t) (arm-at t) arm.Post = search in
+    let at-jump-end : arm-lts.After-jump-end (arm-claims t) (arm-at t) arm.Post = search in
+    let at-block : arm-lts.After-block (arm-claims t) (arm-at t) arm.Post = search in
+    let at-jump-false : arm-lts.After-jump-false (arm-claims t) (arm-at t) arm.Post = search in
+    let at-expr-at : arm-lts.After-expr-at (arm-claims t) (arm-at t) arm.Post = search in
+    let s : arm-lts.Start (arm-claims t) (arm-at t) arm.Post = search in
+    arm-goes (s .args .n) (s .args .rest) (s .args .contents .now) (s .args .bodies .now) (s .args .p) (s .pre .1 .ready) (at-expr-at .expr-at .ensures) (at-jump-false .jump-false .ensures) (at-block .block .ensures) (at-jump-end .jump-end .ensures) (at-update-op-at .update-op-at .ensures) (at-elif .elif .ensures) (c .before .before .update-op-at2 .ensures)
 
 block-shared-slice-read-kind : (t : ℕ) → block-lts.Need-shared-slice-read-kind (block-claims t) (block-at t) block.Post
-block-shared-slice-read-kind t c = omega (arith, stmt-room (c .before .before .before .before .args .contents .now) (c .before .before .before .before .args .bodies .now) (c .before .before .before .before .args .p) (c .before .before .before .before .pre .1))
+block-shared-slice-read-kind t c =
+    let s : block-lts.Start (block-claims t) (block-at t) block.Post = search in
+    omega (arith, stmt-room (s .args .contents .now) (s .args .bodies .now) (s .args .p) (s .pre .1))
 
 block-add-blocks : (t : ℕ) → block-lts.Need-add-blocks (block-claims t) (block-at t) block.Post
-block-add-blocks t c = omega (arith, stmt-room (c .before .before .before .before .before .args .contents .now) (c .before .before .before .before .before .args .bodies .now) (c .before .before .before .before .before .args .p) (c .before .before .before .before .before .pre .1))
+block-add-blocks t c =
+    let s : block-lts.Start (block-claims t) (block-at t) block.Post = search in
+    omega (arith, stmt-room (s .args .contents .now) (s .args .bodies .now) (s .args .p) (s .pre .1))
 
 block-shared-slice-read-blocks : (t : ℕ) → block-lts.Need-shared-slice-read-blocks (block-claims t) (block-at t) block.Post
-block-shared-slice-read-blocks t c = omega (arith, stmt-room (c .before .before .before .before .before .before .args .contents .now) (c .before .before .before .before .before .before .args .bodies .now) (c .before .before .before .before .before .before .args .p) (c .before .before .before .before .before .before .pre .1))
+block-shared-slice-read-blocks t c =
+    let s : block-lts.Start (block-claims t) (block-at t) block.Post = search in
+    omega (arith, stmt-room (s .args .contents .now) (s .args .bodies .now) (s .args .p) (s .pre .1))
 
 block-pass-requires : (t : ℕ) → block-lts.Need-pass-requires (block-claims t) (block-at t) block.Post
-block-pass-requires t c κs = (omega (arith, stmt-room (c .before .before .before .before .before .before .args .contents .now) (c .before .before .before .before .before .before .args .bodies .now) (c .before .before .before .before .before .before .args .p) (c .before .before .before .before .before .before .pre .1), c .before .before .before .before .before .before .good .0 .0), omega (arith, c .before .before .before .before .before .before .pre .1 .body, c .before .before .before .before .before .before .good .1 .0 .0))
+block-pass-requires t c κs =
+    let s : block-lts.Start (block-claims t) (block-at t) block.Post = search in
+    (omega (arith, stmt-room (s .args .contents .now) (s .args .bodies .now) (s .args .p) (s .pre .1), s .good .0 .0), omega (arith, s .pre .1 .body, s .good .1 .0 .0))
 
 block-blocks-requires : (t : ℕ) → block-lts.Need-blocks-requires (block-claims t) (block-at t) block.Post
-block-blocks-requires t c κs = (omega (arith, c .before .before .before .before .before .before .before .before .pre .0, stmt-room (c .before .before .before .before .before .before .before .before .args .contents .now) (c .before .before .before .before .before .before .before .before .args .bodies .now) (c .before .before .before .before .before .before .before .before .args .p) (c .before .before .before .before .before .before .before .before .pre .1), ap (λ (d : Done). d .cont) (c .before .pass .ensures)), block-reads (c .before .before .before .before .before .before .before .before .args .contents .now) (c .before .before .before .before .before .before .before .before .args .bodies .now) (c .before .before .before .before .before .before .before .before .args .p) (c .before .before .before .if1 .taken) (c .before .pass .ensures) (c .before .before .before .before .before .before .before .before .pre .1))
+block-blocks-requires t c κs =
+    let s : block-lts.Start (block-claims t) (block-at t) block.Post = search in
+    (omega (arith, s .pre .0, stmt-room (s .args .contents .now) (s .args .bodies .now) (s .args .p) (s .pre .1), ap (λ (d : Done). d .cont) (c .before .pass .ensures)), block-reads (s .args .contents .now) (s .args .bodies .now) (s .args .p) (c .before .before .before .if1 .taken) (c .before .pass .ensures) (s .pre .1))
 
 block-returns : (t : ℕ) → block-lts.Need-returns (block-claims t) (block-at t) block.Post
-block-returns t c = block-goes (c .before .before .before .before .before .before .before .before .before .before .before .args .contents .now) (c .before .before .before .before .before .before .before .before .before .before .before .args .bodies .now) (c .before .before .before .before .before .before .before .before .before .before .before .args .p) (c .before .before .before .before .before .before .if1 .taken) (c .before .before .before .before .pass .ensures) (c .before .before .blocks2 .ensures)
+block-returns t c =
+    let then1 : block-lts.Then1 (block-claims t) (block-at t) block.Post = search in
+    let s : block-lts.Start (block-claims t) (block-at t) block.Post = search in
+    block-goes (s .args .contents .now) (s .args .bodies .now) (s .args .p) (then1 .if1 .taken) (c .before .before .before .before .pass .ensures) (c .before .before .blocks2 .ensures)
 
 block-ifstmt-requires : (t : ℕ) → block-lts.Need-ifstmt-requires (block-claims t) (block-at t) block.Post
-block-ifstmt-requires t c κs = (omega (arith, c .before .before .before .before .before .before .before .pre .0), (c .before .before .before .before .before .before .before .pre .1, c .before .if2 .taken))
+block-ifstmt-requires t c κs =
+    let s : block-lts.Start (block-claims t) (block-at t) block.Post = search in
+    (omega (arith, s .pre .0), (s .pre .1, c .before .if2 .taken))
 
 block-forstmt-requires : (t : ℕ) → block-lts.Need-forstmt-requires (block-claims t) (block-at t) block.Post
-block-forstmt-requires t c κs = (omega (arith, c .before .before .before .before .before .before .before .before .pre .0), (c .before .before .before .before .before .before .before .before .pre .1, c .before .if3 .taken))
+block-forstmt-requires t c κs =
+    let s : block-lts.Start (block-claims t) (block-at t) block.Post = search in
+    (omega (arith, s .pre .0), (s .pre .1, c .before .if3 .taken))
 
 block-ret-requires : (t : ℕ) → block-lts.Need-ret-requires (block-claims t) (block-at t) block.Post
-block-ret-requires t c κs = (c .before .before .before .before .before .before .before .before .before .pre .1, c .before .if4 .taken)
+block-ret-requires t c κs =
+    let s = c .before .before .before .before .before .before .before .before .before in
+    (s .pre .1, c .before .if4 .taken)
 
 block-expr-stmt-requires : (t : ℕ) → block-lts.Need-expr-stmt-requires (block-claims t) (block-at t) block.Post
-block-expr-stmt-requires t c κs = (c .before .before .before .before .before .before .before .before .before .before .pre .1, c .before .if5 .taken)
+block-expr-stmt-requires t c κs =
+    let s = c .before .before .before .before .before .before .before .before .before .before in
+    (s .pre .1, c .before .if5 .taken)
 
 block-vardecl-requires : (t : ℕ) → block-lts.Need-vardecl-requires (block-claims t) (block-at t) block.Post
-block-vardecl-requires t c κs = (c .before .before .before .before .before .before .before .before .before .before .before .pre .1, c .before .if6 .taken)
+block-vardecl-requires t c κs =
+    let s = c .before .before .before .before .before .before .before .before .before .before .before in
+    (s .pre .1, c .before .if6 .taken)
 
 block-fndecl-requires : (t : ℕ) → block-lts.Need-fndecl-requires (block-claims t) (block-at t) block.Post
-block-fndecl-requires t c κs = (omega (arith, c .before .before .before .before .before .before .before .before .before .before .before .pre .0), (c .before .before .before .before .before .before .before .before .before .before .before .pre .1, others (kind-here (c .before .before .before .before .before .before .before .before .before .before .before .pre .1 .tree) (c .before .before .before .before .before .before .before .before .before .before .before .args .contents .now) (c .before .before .before .before .before .before .before .before .before .before .before .args .bodies .now) (c .before .before .before .before .before .before .before .before .before .before .before .args .p .cont) (c .before .before .before .before .before .before .before .before .before .before .before .args .p .body) (c .before .before .before .before .before .before .before .before .before .before .before .pre .1 .spelt .spells) refl) (c .before .before .before .before .before .before .if1 .left) (c .before .before .before .before .before .if2 .left) (c .before .before .before .before .if3 .left) (c .before .before .before .if4 .left) (c .before .before .if5 .left) (c .before .if6 .left)))
+block-fndecl-requires t c κs =
+    let else2 : block-lts.Else2 (block-claims t) (block-at t) block.Post = search in
+    let else1 : block-lts.Else1 (block-claims t) (block-at t) block.Post = search in
+    let s : block-lts.Start (block-claims t) (block-at t) block.Post = search in
+    (omega (arith, s .pre .0), (s .pre .1, others (kind-here (s .pre .1 .tree) (s .args .contents .now) (s .args .bodies .now) (s .args .p .cont) (s .args .p .body) (s .pre .1 .spelt .spells) refl) (else1 .if1 .left) (else2 .if2 .left) (c .before .before .before .before .if3 .left) (c .before .before .before .if4 .left) (c .before .before .if5 .left) (c .before .if6 .left)))
 
 block-returns-7 : (t : ℕ) → block-lts.Need-returns-7 (block-claims t) (block-at t) block.Post
-block-returns-7 t c = c .before .before .fndecl .ensures (c .before .before .before .before .before .before .before .before .before .before .before .before .before .before .args .keep)
+block-returns-7 t c =
+    let s = c .before .before .before .before .before .before .before .before .before .before .before .before .before .before in
+    c .before .before .fndecl .ensures (s .args .keep)
 
 blocks-returns : (t : ℕ) → blocks-lts.Need-returns (blocks-claims t) (blocks-at t) blocks.Post
-blocks-returns t c = body-none (c .before .before .before .before .before .before .before .before .args .n) (c .before .before .before .before .if1 .taken) (c .before .before .nop .ensures)
+blocks-returns t c =
+    let s : blocks-lts.Start (blocks-claims t) (blocks-at t) blocks.Post = search in
+    body-none (s .args .n) (c .before .before .before .before .if1 .taken) (c .before .before .nop .ensures)
 
 blocks-stmts-requires : (t : ℕ) → blocks-lts.Need-stmts-requires (blocks-claims t) (blocks-at t) blocks.Post
-blocks-stmts-requires t c κs = (omega (arith, c .before .before .before .before .before .pre .0), body-list (c .before .before .before .before .before .args .n) (c .before .before .before .before .before .pre .1))
+blocks-stmts-requires t c κs =
+    let s : blocks-lts.Start (blocks-claims t) (blocks-at t) blocks.Post = search in
+    (omega (arith, s .pre .0), body-list (s .args .n) (s .pre .1))
 
 blocks-returns-2 : (t : ℕ) → blocks-lts.Need-returns-2 (blocks-claims t) (blocks-at t) blocks.Post
-blocks-returns-2 t c = body-some (c .before .before .before .before .before .before .before .before .args .n) (c .before .before .before .before .if1 .left) (c .before .before .stmts .ensures)
+blocks-returns-2 t c =
+    let s : blocks-lts.Start (blocks-claims t) (blocks-at t) blocks.Post = search in
+    body-some (s .args .n) (c .before .before .before .before .if1 .left) (c .before .before .stmts .ensures)
 
 elif-stmts-requires : (t : ℕ) → elif-lts.Need-stmts-requires (elif-claims t) (elif-at t) elif.Post
-elif-stmts-requires t c κs = (omega (arith, c .before .before .before .before .before .pre .0), else-reads (c .before .before .before .before .before .args .contents .now) (c .before .before .before .before .before .args .bodies .now) (c .before .before .before .before .before .args .p) (c .before .before .before .before .before .args .n) (c .before .before .before .before .before .args .rest) (c .before .if1 .taken) (c .before .before .before .before .before .pre .1))
+elif-stmts-requires t c κs =
+    let s : elif-lts.Start (elif-claims t) (elif-at t) elif.Post = search in
+    (omega (arith, s .pre .0), else-reads (s .args .contents .now) (s .args .bodies .now) (s .args .p) (s .args .n) (s .args .rest) (c .before .if1 .taken) (s .pre .1))
 
 elif-if-end-requires : (t : ℕ) → elif-lts.Need-if-end-requires (elif-claims t) (elif-at t) elif.Post
-elif-if-end-requires t c κs = else-asks (c .before .before .before .before .before .before .before .before .before .args .contents .now) (c .before .before .before .before .before .before .before .before .before .args .bodies .now) (c .before .before .before .before .before .before .before .before .before .args .p) (c .before .before .before .before .before .before .before .before .before .args .n) (c .before .before .before .before .before .before .before .before .before .args .rest) (c .before .before .before .before .before .if1 .taken) (c .before .before .before .stmts .ensures) (c .before .before .before .before .before .before .before .before .before .pre .1)
+elif-if-end-requires t c κs =
+    let then1 : elif-lts.Then1 (elif-claims t) (elif-at t) elif.Post = search in
+    let s : elif-lts.Start (elif-claims t) (elif-at t) elif.Post = search in
+    else-asks (s .args .contents .now) (s .args .bodies .now) (s .args .p) (s .args .n) (s .args .rest) (then1 .if1 .taken) (c .before .before .before .stmts .ensures) (s .pre .1)
 
 elif-same-length : (t : ℕ) → elif-lts.Need-same-length (elif-claims t) (elif-at t) elif.Post
-elif-same-length t c = c .before .before .if-end .kept .1 .1 .1 .0 ∙ c .before .before .before .before .before .before .stmts .kept .1 .1 .1 .1 .1 .0
+elif-same-length t c =
+    let at-stmts : elif-lts.After-stmts (elif-claims t) (elif-at t) elif.Post = search in
+    c .before .before .if-end .kept .1 .1 .1 .0 ∙ at-stmts .stmts .kept .1 .1 .1 .1 .1 .0
 
 elif-returns : (t : ℕ) → elif-lts.Need-returns (elif-claims t) (elif-at t) elif.Post
-elif-returns t c = else-goes (c .before .before .before .before .before .before .before .before .before .before .before .before .args .contents .now) (c .before .before .before .before .before .before .before .before .before .before .before .before .args .bodies .now) (c .before .before .before .before .before .before .before .before .before .before .before .before .args .p) (c .before .before .before .before .before .before .before .before .before .before .before .before .args .n) (c .before .before .before .before .before .before .before .before .before .before .before .before .args .rest) (c .before .before .before .before .before .before .before .before .if1 .taken) (c .before .before .before .before .before .before .stmts .ensures) (c .before .before .if-end .ensures)
+elif-returns t c =
+    let at-stmts : elif-lts.After-stmts (elif-claims t) (elif-at t) elif.Post = search in
+    let then1 : elif-lts.Then1 (elif-claims t) (elif-at t) elif.Post = search in
+    let s : elif-lts.Start (elif-claims t) (elif-at t) elif.Post = search in
+    else-goes (s .args .contents .now) (s .args .bodies .now) (s .args .p) (s .args .n) (s .args .rest) (then1 .if1 .taken) (at-stmts .stmts .ensures) (c .before .before .if-end .ensures)
 
 elif-sub-arm : (t : ℕ) → elif-lts.Need-sub-arm (elif-claims t) (elif-at t) elif.Post
 elif-sub-arm t c = omega (arith, one-fewer (c .before .before .before .before .args .n) (c .if1 .left))
 
 elif-pass-requires : (t : ℕ) → elif-lts.Need-pass-requires (elif-claims t) (elif-at t) elif.Post
-elif-pass-requires t c κs = (omega (arith, elif-room (c .before .before .before .before .args .contents .now) (c .before .before .before .before .args .bodies .now) (c .before .before .before .before .args .p) (c .before .before .before .before .args .n) (c .before .before .before .before .args .rest) (c .if1 .left) (c .before .before .before .before .pre .1), c .before .before .before .before .good .1 .1 .0 .0), omega (arith, c .before .before .before .before .pre .1 .body, c .before .before .before .before .good .1 .1 .1 .0 .0))
+elif-pass-requires t c κs =
+    let s : elif-lts.Start (elif-claims t) (elif-at t) elif.Post = search in
+    (omega (arith, elif-room (s .args .contents .now) (s .args .bodies .now) (s .args .p) (s .args .n) (s .args .rest) (c .if1 .left) (s .pre .1), s .good .1 .1 .0 .0), omega (arith, s .pre .1 .body, s .good .1 .1 .1 .0 .0))
 
 elif-arm-requires : (t : ℕ) → elif-lts.Need-arm-requires (elif-claims t) (elif-at t) elif.Post
-elif-arm-requires t c κs = (omega (arith, c .before .before .before .before .before .before .pre .0, elif-falls (c .before .before .before .before .before .before .args .contents .now) (c .before .before .before .before .before .before .args .bodies .now) (c .before .before .before .before .before .before .args .p) (c .before .before .before .before .before .before .args .n) (c .before .before .before .before .before .before .args .rest) (c .before .before .if1 .left) (c .before .pass .ensures) (c .before .before .before .before .before .before .args .n - 1) (one-fewer (c .before .before .before .before .before .before .args .n) (c .before .before .if1 .left)) (c .before .before .before .before .before .before .pre .1) .0, elif-falls (c .before .before .before .before .before .before .args .contents .now) (c .before .before .before .before .before .before .args .bodies .now) (c .before .before .before .before .before .before .args .p) (c .before .before .before .before .before .before .args .n) (c .before .before .before .before .before .before .args .rest) (c .before .before .if1 .left) (c .before .pass .ensures) (c .before .before .before .before .before .before .args .n - 1) (one-fewer (c .before .before .before .before .before .before .args .n) (c .before .before .if1 .left)) (c .before .before .before .before .before .before .pre .1) .1), elif-reads (c .before .before .before .before .before .before .args .contents .now) (c .before .before .before .before .before .before .args .bodies .now) (c .before .before .before .before .before .before .args .p) (c .before .before .before .before .before .before .args .n) (c .before .before .before .before .before .before .args .rest) (c .before .before .if1 .left) (c .before .pass .ensures) (c .before .before .before .before .before .before .args .n - 1) (one-fewer (c .before .before .before .before .before .before .args .n) (c .before .before .if1 .left)) (c .before .before .before .before .before .before .pre .1))
+elif-arm-requires t c κs =
+    let s : elif-lts.Start (elif-claims t) (elif-at t) elif.Post = search in
+    (omega (arith, s .pre .0, elif-falls (s .args .contents .now) (s .args .bodies .now) (s .args .p) (s .args .n) (s .args .rest) (c .before .before .if1 .left) (c .before .pass .ensures) (s .args .n - 1) (one-fewer (s .args .n) (c .before .before .if1 .left)) (s .pre .1) .0, elif-falls (s .args .contents .now) (s .args .bodies .now) (s .args .p) (s .args .n) (s .args .rest) (c .before .before .if1 .left) (c .before .pass .ensures) (s .args .n - 1) (one-fewer (s .args .n) (c .before .before .if1 .left)) (s .pre .1) .1), elif-reads (s .args .contents .now) (s .args .bodies .now) (s .args .p) (s .args .n) (s .args .rest) (c .before .before .if1 .left) (c .before .pass .ensures) (s .args .n - 1) (one-fewer (s .args .n) (c .before .before .if1 .left)) (s .pre .1))
 
 elif-returns-2 : (t : ℕ) → elif-lts.Need-returns-2 (elif-claims t) (elif-at t) elif.Post
-elif-returns-2 t c = elif-goes (c .before .before .before .before .before .before .before .before .before .args .contents .now) (c .before .before .before .before .before .before .before .before .before .args .bodies .now) (c .before .before .before .before .before .before .before .before .before .args .p) (c .before .before .before .before .before .before .before .before .before .args .n) (c .before .before .before .before .before .before .before .before .before .args .rest) (c .before .before .before .before .before .if1 .left) (c .before .before .before .before .pass .ensures) (c .before .before .before .before .before .before .before .before .before .args .n - 1) (one-fewer (c .before .before .before .before .before .before .before .before .before .args .n) (c .before .before .before .before .before .if1 .left)) (c .before .before .arm .ensures)
+elif-returns-2 t c =
+    let else1 : elif-lts.Else1 (elif-claims t) (elif-at t) elif.Post = search in
+    let s : elif-lts.Start (elif-claims t) (elif-at t) elif.Post = search in
+    elif-goes (s .args .contents .now) (s .args .bodies .now) (s .args .p) (s .args .n) (s .args .rest) (else1 .if1 .left) (c .before .before .before .before .pass .ensures) (s .args .n - 1) (one-fewer (s .args .n) (else1 .if1 .left)) (c .before .before .arm .ensures)
 
 fndecl-fn-head-requires : (t : ℕ) → fndecl-lts.Need-fn-head-requires (fndecl-claims t) (fndecl-at t) fndecl.Post
 fndecl-fn-head-requires t c κs = (c .before .before .before .before .pre .1 .0, c .before .before .before .before .pre .1 .1)
 
 fndecl-block-requires : (t : ℕ) → fndecl-lts.Need-block-requires (fndecl-claims t) (fndecl-at t) fndecl.Post
-fndecl-block-requires t c κs = (omega (arith, c .before .before .before .before .before .before .before .before .pre .0, fn-falls (is-a-fn (c .before .before .before .before .before .before .before .before .pre .1 .0) (c .before .before .before .before .before .before .before .before .pre .1 .1)) (c .before .before .before .before .before .before .before .before .pre .1 .0 .ready) (c .before .before .before .fn-head .ensures) .0, fn-falls (is-a-fn (c .before .before .before .before .before .before .before .before .pre .1 .0) (c .before .before .before .before .before .before .before .before .pre .1 .1)) (c .before .before .before .before .before .before .before .before .pre .1 .0 .ready) (c .before .before .before .fn-head .ensures) .1), fn-block-reads (is-a-fn (c .before .before .before .before .before .before .before .before .pre .1 .0) (c .before .before .before .before .before .before .before .before .pre .1 .1)) (c .before .before .before .before .before .before .before .before .pre .1 .0 .ready) (c .before .before .before .fn-head .ensures))
+fndecl-block-requires t c κs =
+    let at-fn-head : fndecl-lts.After-fn-head (fndecl-claims t) (fndecl-at t) fndecl.Post = search in
+    let s : fndecl-lts.Start (fndecl-claims t) (fndecl-at t) fndecl.Post = search in
+    (omega (arith, s .pre .0, fn-falls (is-a-fn (s .pre .1 .0) (s .pre .1 .1)) (s .pre .1 .0 .ready) (at-fn-head .fn-head .ensures) .0, fn-falls (is-a-fn (s .pre .1 .0) (s .pre .1 .1)) (s .pre .1 .0 .ready) (at-fn-head .fn-head .ensures) .1), fn-block-reads (is-a-fn (s .pre .1 .0) (s .pre .1 .1)) (s .pre .1 .0 .ready) (at-fn-head .fn-head .ensures))
 
 fndecl-newlbl-requires : (t : ℕ) → fndecl-lts.Need-newlbl-requires (fndecl-claims t) (fndecl-at t) fndecl.Post
-fndecl-newlbl-requires t c κs = fn-label (is-a-fn (c .before .before .before .before .before .before .before .before .before .before .before .pre .1 .0) (c .before .before .before .before .before .before .before .before .before .before .before .pre .1 .1)) (c .before .before .before .before .before .before .before .before .before .before .before .pre .1 .0 .ready) (c .before .before .before .before .before .before .fn-head .ensures) (c .before .before .block .ensures)
+fndecl-newlbl-requires t c κs =
+    let at-fn-head : fndecl-lts.After-fn-head (fndecl-claims t) (fndecl-at t) fndecl.Post = search in
+    let s : fndecl-lts.Start (fndecl-claims t) (fndecl-at t) fndecl.Post = search in
+    fn-label (is-a-fn (s .pre .1 .0) (s .pre .1 .1)) (s .pre .1 .0 .ready) (at-fn-head .fn-head .ensures) (c .before .before .block .ensures)
 
 fndecl-same-length : (t : ℕ) → fndecl-lts.Need-same-length (fndecl-claims t) (fndecl-at t) fndecl.Post
-fndecl-same-length t c = c .before .before .before .block .kept .1 .1 .1 .1 .0 ∙ c .before .before .before .before .before .before .before .fn-head .kept .1 .1 .1 .0
+fndecl-same-length t c =
+    let at-fn-head : fndecl-lts.After-fn-head (fndecl-claims t) (fndecl-at t) fndecl.Post = search in
+    c .before .before .before .block .kept .1 .1 .1 .1 .0 ∙ at-fn-head .fn-head .kept .1 .1 .1 .0
 
 fndecl-returns : (t : ℕ) → fndecl-lts.Need-returns (fndecl-claims t) (fndecl-at t) fndecl.Post
-fndecl-returns t c = λ k. fn-goes (c .before .before .before .before .before .before .before .before .before .before .before .before .args .contents .now) (c .before .before .before .before .before .before .before .before .before .before .before .before .args .bodies .now) (c .before .before .before .before .before .before .before .before .before .before .before .before .args .p) (c .before .before .before .before .before .before .before .before .before .before .before .before .pre .1 .1) (c .before .before .before .before .before .before .before .fn-head .ensures) (c .before .before .before .block .ensures) (c .newlbl .ensures)
+fndecl-returns t c =
+    let at-fn-head : fndecl-lts.After-fn-head (fndecl-claims t) (fndecl-at t) fndecl.Post = search in
+    let s : fndecl-lts.Start (fndecl-claims t) (fndecl-at t) fndecl.Post = search in
+    λ k. fn-goes (s .args .contents .now) (s .args .bodies .now) (s .args .p) (s .pre .1 .1) (at-fn-head .fn-head .ensures) (c .before .before .before .block .ensures) (c .newlbl .ensures)
 
 forstmt-shared-slice-read-i : (t : ℕ) → forstmt-lts.Need-shared-slice-read-i (forstmt-claims t) (forstmt-at t) forstmt.Post
-forstmt-shared-slice-read-i t c = omega (arith, for-room (is-a-for (c .before .before .before .before .pre .1 .0) (c .before .before .before .before .pre .1 .1)) .1, c .before .before .before .before .good .0 .0, c .before .before .before .before .good .1 .0 .0)
+forstmt-shared-slice-read-i t c =
+    let s : forstmt-lts.Start (forstmt-claims t) (forstmt-at t) forstmt.Post = search in
+    omega (arith, for-room (is-a-for (s .pre .1 .0) (s .pre .1 .1)) .1, s .good .0 .0, s .good .1 .0 .0)
 
 forstmt-add-v : (t : ℕ) → forstmt-lts.Need-add-v (forstmt-claims t) (forstmt-at t) forstmt.Post
-forstmt-add-v t c = omega (arith, for-room (is-a-for (c .before .before .before .before .pre .1 .0) (c .before .before .before .before .pre .1 .1)) .1, c .before .before .before .before .good .0 .0, c .before .before .before .before .good .1 .0 .0)
+forstmt-add-v t c =
+    let s : forstmt-lts.Start (forstmt-claims t) (forstmt-at t) forstmt.Post = search in
+    omega (arith, for-room (is-a-for (s .pre .1 .0) (s .pre .1 .1)) .1, s .good .0 .0, s .good .1 .0 .0)
 
 forstmt-shared-slice-read-v : (t : ℕ) → forstmt-lts.Need-shared-slice-read-v (forstmt-claims t) (forstmt-at t) forstmt.Post
-forstmt-shared-slice-read-v t c = omega (arith, for-room (is-a-for (c .before .before .before .before .before .pre .1 .0) (c .before .before .before .before .before .pre .1 .1)) .1, c .before .before .before .before .before .good .0 .0, c .before .before .before .before .before .good .1 .0 .0)
+forstmt-shared-slice-read-v t c =
+    let s : forstmt-lts.Start (forstmt-claims t) (forstmt-at t) forstmt.Post = search in
+    omega (arith, for-room (is-a-for (s .pre .1 .0) (s .pre .1 .1)) .1, s .good .0 .0, s .good .1 .0 .0)
 
 forstmt-add-source-name : (t : ℕ) → forstmt-lts.Need-add-source-name (forstmt-claims t) (forstmt-at t) forstmt.Post
-forstmt-add-source-name t c = omega (arith, for-room (is-a-for (c .before .before .before .before .before .pre .1 .0) (c .before .before .before .before .before .pre .1 .1)) .0, c .before .before .before .before .before .good .0 .0, c .before .before .before .before .before .good .1 .0 .0)
+forstmt-add-source-name t c =
+    let s : forstmt-lts.Start (forstmt-claims t) (forstmt-at t) forstmt.Post = search in
+    omega (arith, for-room (is-a-for (s .pre .1 .0) (s .pre .1 .1)) .0, s .good .0 .0, s .good .1 .0 .0)
 
 forstmt-shared-slice-read-source-name : (t : ℕ) → forstmt-lts.Need-shared-slice-read-source-name (forstmt-claims t) (forstmt-at t) forstmt.Post
-forstmt-shared-slice-read-source-name t c = omega (arith, for-room (is-a-for (c .before .before .before .before .before .before .pre .1 .0) (c .before .before .before .before .before .before .pre .1 .1)) .0, c .before .before .before .before .before .before .good .0 .0, c .before .before .before .before .before .before .good .1 .0 .0)
+forstmt-shared-slice-read-source-name t c =
+    let s : forstmt-lts.Start (forstmt-claims t) (forstmt-at t) forstmt.Post = search in
+    omega (arith, for-room (is-a-for (s .pre .1 .0) (s .pre .1 .1)) .0, s .good .0 .0, s .good .1 .0 .0)
 
 forstmt-add-source-name-2 : (t : ℕ) → forstmt-lts.Need-add-source-name-2 (forstmt-claims t) (forstmt-at t) forstmt.Post
-forstmt-add-source-name-2 t c = omega (arith, for-room (is-a-for (c .before .before .before .before .before .before .pre .1 .0) (c .before .before .before .before .before .before .pre .1 .1)) .1, c .before .before .before .before .before .before .good .0 .0, c .before .before .before .before .before .before .good .1 .0 .0)
+forstmt-add-source-name-2 t c =
+    let s : forstmt-lts.Start (forstmt-claims t) (forstmt-at t) forstmt.Post = search in
+    omega (arith, for-room (is-a-for (s .pre .1 .0) (s .pre .1 .1)) .1, s .good .0 .0, s .good .1 .0 .0)
 
 forstmt-shared-slice-read-source-name-2 :
     (t : ℕ) → forstmt-lts.Need-shared-slice-read-source-name-2 (forstmt-claims t) (forstmt-at t) forstmt.Post
 forstmt-shared-slice-read-source-name-2 t c = omega (arith, for-room (is-a-for (c .before .before .before .before .before .before .before .pre .1 .0) (c .before .before .before .before .before .before .before .pre .1 .1)) .1, c .before .before .before .before .before .before .before .good .0 .0, c .before .before .before .before .before .before .before .good .1 .0 .0)
 
 forstmt-nextreg-requires : (t : ℕ) → forstmt-lts.Need-nextreg-requires (forstmt-claims t) (forstmt-at t) forstmt.Post
-forstmt-nextreg-requires t c κs = c .before .before .before .before .before .before .before .before .pre .1 .0 .ready .registers
+forstmt-nextreg-requires t c κs =
+    let s : forstmt-lts.Start (forstmt-claims t) (forstmt-at t) forstmt.Post = search in
+    s .pre .1 .0 .ready .registers
 
 forstmt-add-start : (t : ℕ) → forstmt-lts.Need-add-start (forstmt-claims t) (forstmt-at t) forstmt.Post
-forstmt-add-start t c = omega (arith, for-room (is-a-for (c .before .before .before .before .before .before .before .before .before .pre .1 .0) (c .before .before .before .before .before .before .before .before .before .pre .1 .1)) .0, c .before .before .before .before .before .before .before .before .before .good .0 .0, c .before .before .before .before .before .before .before .before .before .good .1 .0 .0)
+forstmt-add-start t c =
+    let s = c .before .before .before .before .before .before .before .before .before in
+    omega (arith, for-room (is-a-for (s .pre .1 .0) (s .pre .1 .1)) .0, s .good .0 .0, s .good .1 .0 .0)
 
 forstmt-add-start-2 : (t : ℕ) → forstmt-lts.Need-add-start-2 (forstmt-claims t) (forstmt-at t) forstmt.Post
-forstmt-add-start-2 t c = omega (arith, for-room (is-a-for (c .before .before .before .before .before .before .before .before .before .pre .1 .0) (c .before .before .before .before .before .before .before .before .before .pre .1 .1)) .1, c .before .before .before .before .before .before .before .before .before .good .0 .0, c .before .before .before .before .before .before .before .before .before .good .1 .0 .0)
+forstmt-add-start-2 t c =
+    let s = c .before .before .before .before .before .before .before .before .before in
+    omega (arith, for-room (is-a-for (s .pre .1 .0) (s .pre .1 .1)) .1, s .good .0 .0, s .good .1 .0 .0)
 
 forstmt-source-requires : (t : ℕ) → forstmt-lts.Need-source-requires (forstmt-claims t) (forstmt-at t) forstmt.Post
-forstmt-source-requires t c κs = for-source-reads (is-a-for (c .before .before .before .before .before .before .before .before .before .before .before .pre .1 .0) (c .before .before .before .before .before .before .before .before .before .before .before .pre .1 .1)) (c .before .before .before .before .before .before .before .before .before .before .before .pre .1 .0 .ready) (c .before .before .nextreg .ensures) (c .before .start .ensures)
+forstmt-source-requires t c κs =
+    let s = c .before .before .before .before .before .before .before .before .before .before .before in
+    for-source-reads (is-a-for (s .pre .1 .0) (s .pre .1 .1)) (s .pre .1 .0 .ready) (c .before .before .nextreg .ensures) (c .before .start .ensures)
 
 forstmt-for-head-requires : (t : ℕ) → forstmt-lts.Need-for-head-requires (forstmt-claims t) (forstmt-at t) forstmt.Post
-forstmt-for-head-requires t c κs = head-asks (is-a-for (c .before .before .before .before .before .before .before .before .before .before .before .before .before .before .before .pre .1 .0) (c .before .before .before .before .before .before .before .before .before .before .before .before .before .before .before .pre .1 .1)) (c .before .before .before .before .before .before .before .before .before .before .before .before .before .before .before .pre .1 .0 .ready) (c .before .before .before .before .before .before .nextreg .ensures) (c .before .before .before .before .before .start .ensures) (c .before .before .before .source .ensures)
+forstmt-for-head-requires t c κs =
+    let at-start : forstmt-lts.After-start (forstmt-claims t) (forstmt-at t) forstmt.Post = search in
+    let at-nextreg : forstmt-lts.After-nextreg (forstmt-claims t) (forstmt-at t) forstmt.Post = search in
+    let s = at-nextreg .before .before .before .before .before .before .before .before .before in
+    head-asks (is-a-for (s .pre .1 .0) (s .pre .1 .1)) (s .pre .1 .0 .ready) (at-nextreg .nextreg .ensures) (at-start .start .ensures) (c .before .before .before .source .ensures)
 
 forstmt-block-requires : (t : ℕ) → forstmt-lts.Need-block-requires (forstmt-claims t) (forstmt-at t) forstmt.Post
-forstmt-block-requires t c κs = (omega (arith, c .before .before .before .before .before .before .before .before .before .before .before .before .before .before .before .before .before .before .before .pre .0, for-falls (is-a-for (c .before .before .before .before .before .before .before .before .before .before .before .before .before .before .before .before .before .before .before .pre .1 .0) (c .before .before .before .before .before .before .before .before .before .before .before .before .before .before .before .before .before .before .before .pre .1 .1)) (c .before .before .before .before .before .before .before .before .before .before .before .before .before .before .before .before .before .before .before .pre .1 .0 .ready) (c .before .before .before .before .before .before .before .before .before .before .nextreg .ensures) (c .before .before .before .before .before .before .before .before .before .start .ensures) (c .before .before .before .before .before .before .before .source .ensures) (c .before .before .before .for-head .ensures) .0, for-falls (is-a-for (c .before .before .before .before .before .before .before .before .before .before .before .before .before .before .before .before .before .before .before .pre .1 .0) (c .before .before .before .before .before .before .before .before .before .before .before .before .before .before .before .before .before .before .before .pre .1 .1)) (c .before .before .before .before .before .before .before .before .before .before .before .before .before .before .before .before .before .before .before .pre .1 .0 .ready) (c .before .before .before .before .before .before .before .before .before .before .nextreg .ensures) (c .before .before .before .before .before .before .before .before .before .start .ensures) (c .before .before .before .before .before .before .before .source .ensures) (c .before .before .before .for-head .ensures) .1), for-block-reads (is-a-for (c .before .before .before .before .before .before .before .before .before .before .before .before .before .before .before .before .before .before .before .pre .1 .0) (c .before .before .before .before .before .before .before .before .before .before .before .before .before .before .before .before .before .before .before .pre .1 .1)) (c .before .before .before .before .before .before .before .before .before .before .before .before .before .before .before .before .before .before .before .pre .1 .0 .ready) (c .before .before .before .before .before .before .before .before .before .before .nextreg .ensures) (c .before .before .before .before .before .before .before .before .before .start .ensures) (c .before .before .before .before .before .before .before .source .ensures) (c .before .before .before .for-head .ensures))
+forstmt-block-requires t c κs =
+    let at-for-head : forstmt-lts.After-for-head (forstmt-claims t) (forstmt-at t) forstmt.Post = search in
+    let at-source : forstmt-lts.After-source (forstmt-claims t) (forstmt-at t) forstmt.Post = search in
+    let at-start : forstmt-lts.After-start (forstmt-claims t) (forstmt-at t) forstmt.Post = search in
+    let at-nextreg : forstmt-lts.After-nextreg (forstmt-claims t) (forstmt-at t) forstmt.Post = search in
+    let s = at-nextreg .before .before .before .before .before .before .before .before .before in
+    (omega (arith, s .pre .0, for-falls (is-a-for (s .pre .1 .0) (s .pre .1 .1)) (s .pre .1 .0 .ready) (at-nextreg .nextreg .ensures) (at-start .start .ensures) (at-source .source .ensures) (at-for-head .for-head .ensures) .0, for-falls (is-a-for (s .pre .1 .0) (s .pre .1 .1)) (s .pre .1 .0 .ready) (at-nextreg .nextreg .ensures) (at-start .start .ensures) (at-source .source .ensures) (at-for-head .for-head .ensures) .1), for-block-reads (is-a-for (s .pre .1 .0) (s .pre .1 .1)) (s .pre .1 .0 .ready) (at-nextreg .nextreg .ensures) (at-start .start .ensures) (at-source .source .ensures) (at-for-head .for-head .ensures))
 
 forstmt-for-tail-requires : (t : ℕ) → forstmt-lts.Need-for-tail-requires (forstmt-claims t) (forstmt-at t) forstmt.Post
-forstmt-for-tail-requires t c κs = tail-asks (is-a-for (c .before .before .before .before .before .before .before .before .before .before .before .before .before .before .before .before .before .before .before .before .before .before .before .pre .1 .0) (c .before .before .before .before .before .before .before .before .before .before .before .before .before .before .before .before .before .before .before .before .before .before .before .pre .1 .1)) (c .before .before .before .before .before .before .before .before .before .before .before .before .before .before .before .before .before .before .before .before .before .before .before .pre .1 .0 .ready) (c .before .before .before .before .before .before .before .before .before .before .before .before .before .before .nextreg .ensures) (c .before .before .before .before .before .before .before .before .before .before .before .before .before .start .ensures) (c .before .before .before .before .before .before .before .before .before .before .before .source .ensures) (c .before .before .before .before .before .before .before .for-head .ensures) (c .before .before .before .block .ensures)
+forstmt-for-tail-requires t c κs =
+    let at-for-head : forstmt-lts.After-for-head (forstmt-claims t) (forstmt-at t) forstmt.Post = search in
+    let at-source : forstmt-lts.After-source (forstmt-claims t) (forstmt-at t) forstmt.Post = search in
+    let at-start : forstmt-lts.After-start (forstmt-claims t) (forstmt-at t) forstmt.Post = search in
+    let at-nextreg : forstmt-lts.After-nextreg (forstmt-claims t) (forstmt-at t) forstmt.Post = search in
+    let s = at-nextreg .before .before .before .before .before .before .before .before .before in
+    tail-asks (is-a-for (s .pre .1 .0) (s .pre .1 .1)) (s .pre .1 .0 .ready) (at-nextreg .nextreg .ensures) (at-start .start .ensures) (at-source .source .ensures) (at-for-head .for-head .ensures) (c .before .before .before .block .ensures)
 
 forstmt-same-length : (t : ℕ) → forstmt-lts.Need-same-length (forstmt-claims t) (forstmt-at t) forstmt.Post
-forstmt-same-length t c = c .before .before .for-tail .kept .1 .1 .1 .1 .1 .1 .0 ∙ c .before .before .before .before .before .before .block .kept .1 .1 .1 .1 .0 ∙ c .before .before .before .before .before .before .before .before .before .before .for-head .kept .1 .1 .1 .1 .1 .1 .0 ∙ c .before .before .before .before .before .before .before .before .before .before .before .before .before .before .source .kept .1 .1 .1 .1 .0
+forstmt-same-length t c =
+    let at-block : forstmt-lts.After-block (forstmt-claims t) (forstmt-at t) forstmt.Post = search in
+    let at-for-head : forstmt-lts.After-for-head (forstmt-claims t) (forstmt-at t) forstmt.Post = search in
+    let at-source : forstmt-lts.After-source (forstmt-claims t) (forstmt-at t) forstmt.Post = search in
+    c .before .before .for-tail .kept .1 .1 .1 .1 .1 .1 .0 ∙ at-block .block .kept .1 .1 .1 .1 .0 ∙ at-for-head .for-head .kept .1 .1 .1 .1 .1 .1 .0 ∙ at-source .source .kept .1 .1 .1 .1 .0
 
 forstmt-returns : (t : ℕ) → forstmt-lts.Need-returns (forstmt-claims t) (forstmt-at t) forstmt.Post
-forstmt-returns t c = for-goes (c .before .before .before .before .before .before .before .before .before .before .before .before .before .before .before .before .before .before .before .before .before .before .before .before .before .before .args .contents .now) (c .before .before .before .before .before .before .before .before .before .before .before .before .before .before .before .before .before .before .before .before .before .before .before .before .before .before .args .bodies .now) (c .before .before .before .before .before .before .before .before .before .before .before .before .before .before .before .before .before .before .before .before .before .before .before .before .before .before .args .p) (c .before .before .before .before .before .before .before .before .before .before .before .before .before .before .before .before .before .before .before .before .before .before .before .before .before .before .pre .1 .1) (c .before .before .before .before .before .before .before .before .before .before .before .before .before .before .before .before .before .nextreg .ensures) (c .before .before .before .before .before .before .before .before .before .before .before .before .before .before .before .before .start .ensures) (c .before .before .before .before .before .before .before .before .before .before .before .before .before .before .before .before .before .before .source-name .ensures) (c .before .before .before .before .before .before .before .before .before .before .before .before .before .before .source .ensures) (c .before .before .before .before .before .before .before .before .before .before .for-head .ensures) (c .before .before .before .before .before .before .block .ensures) (c .before .before .for-tail .ensures)
+forstmt-returns t c =
+    let at-block : forstmt-lts.After-block (forstmt-claims t) (forstmt-at t) forstmt.Post = search in
+    let at-for-head : forstmt-lts.After-for-head (forstmt-claims t) (forstmt-at t) forstmt.Post = search in
+    let at-source : forstmt-lts.After-source (forstmt-claims t) (forstmt-at t) forstmt.Post = search in
+    let at-start : forstmt-lts.After-start (forstmt-claims t) (forstmt-at t) forstmt.Post = search in
+    let at-nextreg : forstmt-lts.After-nextreg (forstmt-claims t) (forstmt-at t) forstmt.Post = search in
+    let at-source-name : forstmt-lts.After-source-name (forstmt-claims t) (forstmt-at t) forstmt.Post = search in
+    let s = at-nextreg .before .before .before .before .before .before .before .before .before in
+    for-goes (s .args .contents .now) (s .args .bodies .now) (s .args .p) (s .pre .1 .1) (at-nextreg .nextreg .ensures) (at-start .start .ensures) (at-source-name .source-name .ensures) (at-source .source .ensures) (at-for-head .for-head .ensures) (at-block .block .ensures) (c .before .before .for-tail .ensures)
 
 ifstmt-shared-slice-read-n : (t : ℕ) → ifstmt-lts.Need-shared-slice-read-n (ifstmt-claims t) (ifstmt-at t) ifstmt.Post
-ifstmt-shared-slice-read-n t c = omega (arith, if-counts (c .before .before .before .before .args .contents .now) (c .before .before .before .before .args .bodies .now) (c .before .before .before .before .args .p) (c .before .before .before .before .pre .1 .1) (c .before .before .before .before .pre .1 .0) .1)
+ifstmt-shared-slice-read-n t c =
+    let s : ifstmt-lts.Start (ifstmt-claims t) (ifstmt-at t) ifstmt.Post = search in
+    omega (arith, if-counts (s .args .contents .now) (s .args .bodies .now) (s .args .p) (s .pre .1 .1) (s .pre .1 .0) .1)
 
 ifstmt-add-rest : (t : ℕ) → ifstmt-lts.Need-add-rest (ifstmt-claims t) (ifstmt-at t) ifstmt.Post
-ifstmt-add-rest t c = omega (arith, stmt-room (c .before .before .before .before .args .contents .now) (c .before .before .before .before .args .bodies .now) (c .before .before .before .before .args .p) (c .before .before .before .before .pre .1 .0))
+ifstmt-add-rest t c =
+    let s : ifstmt-lts.Start (ifstmt-claims t) (ifstmt-at t) ifstmt.Post = search in
+    omega (arith, stmt-room (s .args .contents .now) (s .args .bodies .now) (s .args .p) (s .pre .1 .0))
 
 ifstmt-shared-slice-read-rest : (t : ℕ) → ifstmt-lts.Need-shared-slice-read-rest (ifstmt-claims t) (ifstmt-at t) ifstmt.Post
-ifstmt-shared-slice-read-rest t c = omega (arith, stmt-room (c .before .before .before .before .before .args .contents .now) (c .before .before .before .before .before .args .bodies .now) (c .before .before .before .before .before .args .p) (c .before .before .before .before .before .pre .1 .0))
+ifstmt-shared-slice-read-rest t c =
+    let s : ifstmt-lts.Start (ifstmt-claims t) (ifstmt-at t) ifstmt.Post = search in
+    omega (arith, stmt-room (s .args .contents .now) (s .args .bodies .now) (s .args .p) (s .pre .1 .0))
 
 ifstmt-sub-rest : (t : ℕ) → ifstmt-lts.Need-sub-rest (ifstmt-claims t) (ifstmt-at t) ifstmt.Post
-ifstmt-sub-rest t c = omega (arith, if-counts (c .before .before .before .before .before .args .contents .now) (c .before .before .before .before .before .args .bodies .now) (c .before .before .before .before .before .args .p) (c .before .before .before .before .before .pre .1 .1) (c .before .before .before .before .before .pre .1 .0) .0)
+ifstmt-sub-rest t c =
+    let s : ifstmt-lts.Start (ifstmt-claims t) (ifstmt-at t) ifstmt.Post = search in
+    omega (arith, if-counts (s .args .contents .now) (s .args .bodies .now) (s .args .p) (s .pre .1 .1) (s .pre .1 .0) .0)
 
 ifstmt-sub-rest-2 : (t : ℕ) → ifstmt-lts.Need-sub-rest-2 (ifstmt-claims t) (ifstmt-at t) ifstmt.Post
-ifstmt-sub-rest-2 t c = omega (arith, if-counts (c .before .before .before .before .before .args .contents .now) (c .before .before .before .before .before .args .bodies .now) (c .before .before .before .before .before .args .p) (c .before .before .before .before .before .pre .1 .1) (c .before .before .before .before .before .pre .1 .0) .0)
+ifstmt-sub-rest-2 t c =
+    let s : ifstmt-lts.Start (ifstmt-claims t) (ifstmt-at t) ifstmt.Post = search in
+    omega (arith, if-counts (s .args .contents .now) (s .args .bodies .now) (s .args .p) (s .pre .1 .1) (s .pre .1 .0) .0)
 
 ifstmt-pass-requires : (t : ℕ) → ifstmt-lts.Need-pass-requires (ifstmt-claims t) (ifstmt-at t) ifstmt.Post
-ifstmt-pass-requires t c κs = (omega (arith, stmt-room (c .before .before .before .before .before .args .contents .now) (c .before .before .before .before .before .args .bodies .now) (c .before .before .before .before .before .args .p) (c .before .before .before .before .before .pre .1 .0), c .before .before .before .before .before .good .0 .0), omega (arith, if-counts (c .before .before .before .before .before .args .contents .now) (c .before .before .before .before .before .args .bodies .now) (c .before .before .before .before .before .args .p) (c .before .before .before .before .before .pre .1 .1) (c .before .before .before .before .before .pre .1 .0) .1, c .before .before .before .before .before .good .1 .0 .0))
+ifstmt-pass-requires t c κs =
+    let s : ifstmt-lts.Start (ifstmt-claims t) (ifstmt-at t) ifstmt.Post = search in
+    (omega (arith, stmt-room (s .args .contents .now) (s .args .bodies .now) (s .args .p) (s .pre .1 .0), s .good .0 .0), omega (arith, if-counts (s .args .contents .now) (s .args .bodies .now) (s .args .p) (s .pre .1 .1) (s .pre .1 .0) .1, s .good .1 .0 .0))
 
 ifstmt-arm-requires : (t : ℕ) → ifstmt-lts.Need-arm-requires (ifstmt-claims t) (ifstmt-at t) ifstmt.Post
-ifstmt-arm-requires t c κs = (omega (arith, c .before .before .before .before .before .before .before .pre .0, stmt-room (c .before .before .before .before .before .before .before .args .contents .now) (c .before .before .before .before .before .before .before .args .bodies .now) (c .before .before .before .before .before .before .before .args .p) (c .before .before .before .before .before .before .before .pre .1 .0), ap (λ (d : Done). d .cont) (c .before .pass .ensures)), if-reads (c .before .before .before .before .before .before .before .args .contents .now) (c .before .before .before .before .before .before .before .args .bodies .now) (c .before .before .before .before .before .before .before .args .p) (c .before .before .before .before .before .before .before .pre .1 .1) (c .before .pass .ensures) (getD (c .before .before .before .before .before .before .before .args .bodies .now) (c .before .before .before .before .before .before .before .args .p .body) 0) (getD (c .before .before .before .before .before .before .before .args .contents .now) (c .before .before .before .before .before .before .before .args .p .cont + 1) 0 - 2 - getD (c .before .before .before .before .before .before .before .args .bodies .now) (c .before .before .before .before .before .before .before .args .p .body) 0) refl (omega (arith, if-counts (c .before .before .before .before .before .before .before .args .contents .now) (c .before .before .before .before .before .before .before .args .bodies .now) (c .before .before .before .before .before .before .before .args .p) (c .before .before .before .before .before .before .before .pre .1 .1) (c .before .before .before .before .before .before .before .pre .1 .0) .0)) (c .before .before .before .before .before .before .before .pre .1 .0))
+ifstmt-arm-requires t c κs =
+    let s : ifstmt-lts.Start (ifstmt-claims t) (ifstmt-at t) ifstmt.Post = search in
+    (omega (arith, s .pre .0, stmt-room (s .args .contents .now) (s .args .bodies .now) (s .args .p) (s .pre .1 .0), ap (λ (d : Done). d .cont) (c .before .pass .ensures)), if-reads (s .args .contents .now) (s .args .bodies .now) (s .args .p) (s .pre .1 .1) (c .before .pass .ensures) (getD (s .args .bodies .now) (s .args .p .body) 0) (getD (s .args .contents .now) (s .args .p .cont + 1) 0 - 2 - getD (s .args .bodies .now) (s .args .p .body) 0) refl (omega (arith, if-counts (s .args .contents .now) (s .args .bodies .now) (s .args .p) (s .pre .1 .1) (s .pre .1 .0) .0)) (s .pre .1 .0))
 
 ifstmt-returns : (t : ℕ) → ifstmt-lts.Need-returns (ifstmt-claims t) (ifstmt-at t) ifstmt.Post
-ifstmt-returns t c = if-goes (c .before .before .before .before .before .before .before .before .before .before .args .contents .now) (c .before .before .before .before .before .before .before .before .before .before .args .bodies .now) (c .before .before .before .before .before .before .before .before .before .before .args .p) (c .before .before .before .before .before .before .before .before .before .before .pre .1 .1) (c .before .before .before .before .pass .ensures) (getD (c .before .before .before .before .before .before .before .before .before .before .args .bodies .now) (c .before .before .before .before .before .before .before .before .before .before .args .p .body) 0) (getD (c .before .before .before .before .before .before .before .before .before .before .args .contents .now) (c .before .before .before .before .before .before .before .before .before .before .args .p .cont + 1) 0 - 2 - getD (c .before .before .before .before .before .before .before .before .before .before .args .bodies .now) (c .before .before .before .before .before .before .before .before .before .before .args .p .body) 0) refl (omega (arith, if-counts (c .before .before .before .before .before .before .before .before .before .before .args .contents .now) (c .before .before .before .before .before .before .before .before .before .before .args .bodies .now) (c .before .before .before .before .before .before .before .before .before .before .args .p) (c .before .before .before .before .before .before .before .before .before .before .pre .1 .1) (c .before .before .before .before .before .before .before .before .before .before .pre .1 .0) .0)) (c .before .before .arm .ensures)
+ifstmt-returns t c =
+    let s = c .before .before .before .before .before .before .before .before .before .before in
+    if-goes (s .args .contents .now) (s .args .bodies .now) (s .args .p) (s .pre .1 .1) (c .before .before .before .before .pass .ensures) (getD (s .args .bodies .now) (s .args .p .body) 0) (getD (s .args .contents .now) (s .args .p .cont + 1) 0 - 2 - getD (s .args .bodies .now) (s .args .p .body) 0) refl (omega (arith, if-counts (s .args .contents .now) (s .args .bodies .now) (s .args .p) (s .pre .1 .1) (s .pre .1 .0) .0)) (c .before .before .arm .ensures)
 
 abbrev stmts-Inv-loop : stmts-lts.InvT-loop
 stmts-Inv-loop n contents bodies keep out₀ q₀ more₀ out q more = (length out ≡ length out₀) × LoopLeft (lists (q₀ .lbl) n) (lists (q .lbl) more) contents bodies keep q₀ out₀ q out

@@ -127,29 +127,42 @@ node-claims t = (
 )
 
 at-sub-node : (t : ℕ) → at-lts.Need-sub-node (at-claims t) (at-at t) at.Post
-at-sub-node t c = here (c .before .before .before .before .before .pre .1 .1) _ _ (c .before .p .given .1) .inC
+at-sub-node t c =
+    let s : at-lts.Start (at-claims t) (at-at t) at.Post = search in
+    here (s .pre .1 .1) _ _ (c .before .p .given .1) .inC
 
 at-part-node-start : (t : ℕ) → at-lts.Need-part-node-start (at-claims t) (at-at t) at.Post
-at-part-node-start t c = here (c .before .before .before .before .before .pre .1 .1) _ _ (c .before .p .given .1) .inC
+at-part-node-start t c =
+    let s : at-lts.Start (at-claims t) (at-at t) at.Post = search in
+    here (s .pre .1 .1) _ _ (c .before .p .given .1) .inC
 
 at-sub-node-2 : (t : ℕ) → at-lts.Need-sub-node-2 (at-claims t) (at-at t) at.Post
-at-sub-node-2 t c = here (c .before .before .before .before .before .before .pre .1 .1) _ _ (c .before .before .p .given .1) .inB
+at-sub-node-2 t c =
+    let s : at-lts.Start (at-claims t) (at-at t) at.Post = search in
+    here (s .pre .1 .1) _ _ (c .before .before .p .given .1) .inB
 
 at-part-node-start-2 : (t : ℕ) → at-lts.Need-part-node-start-2 (at-claims t) (at-at t) at.Post
-at-part-node-start-2 t c = here (c .before .before .before .before .before .before .pre .1 .1) _ _ (c .before .before .p .given .1) .inB
+at-part-node-start-2 t c =
+    let s : at-lts.Start (at-claims t) (at-at t) at.Post = search in
+    here (s .pre .1 .1) _ _ (c .before .before .p .given .1) .inB
 
 at-node-requires : (t : ℕ) → at-lts.Need-node-requires (at-claims t) (at-at t) at.Post
-at-node-requires t c κs = (omega (arith, c .before .before .before .before .before .before .before .pre .0), simp to-end (here (c .before .before .before .before .before .before .before .pre .1 .1) _ _ (c .before .before .before .p .given .1) .fit))
+at-node-requires t c κs =
+    let s : at-lts.Start (at-claims t) (at-at t) at.Post = search in
+    (omega (arith, s .pre .0), simp to-end (here (s .pre .1 .1) _ _ (c .before .before .before .p .given .1) .fit))
 
 at-shift-requires : (t : ℕ) → at-lts.Need-shift-requires (at-claims t) (at-at t) at.Post
 at-shift-requires t c κs =
-    let h = here (c .before .before .before .before .before .before .before .before .pre .1 .1) _ _ (c .before .before .before .before .p .given .1) in
+    let s : at-lts.Start (at-claims t) (at-at t) at.Post = search in
+    let h = here (s .pre .1 .1) _ _ (c .before .before .before .before .p .given .1) in
     λ x y e.
     let k = here (simp to-end at (c .node .ensures)) x y e in
     (omega (arith, h .inC, simp length-drop at (k .inC)), omega (arith, h .inB, simp length-drop at (k .inB)))
 
 at-returns-2 : (t : ℕ) → at-lts.Need-returns-2 (at-claims t) (at-at t) at.Post
-at-returns-2 t c = λ x a. at-go _ (here a _ _ (c .before .before .before .before .before .p .given .1)) (simp to-end at (c .before .node .ensures)) (c .shift .ensures)
+at-returns-2 t c =
+    let at-p : at-lts.After-p (at-claims t) (at-at t) at.Post = search in
+    λ x a. at-go _ (here a _ _ (at-p .p .given .1)) (simp to-end at (c .before .node .ensures)) (c .shift .ensures)
 
 abbrev items-Inv-loop : items-lts.InvT-loop
 items-Inv-loop n contents bodies depth q₀ keys₀ more₀ q keys more = (x : Remaining) → Agrees contents bodies x q₀ → Reached contents bodies q (then x (λ ns. keyedTimes (λ ms. passOver depth places.itemBits 0 false ms) 0 n ns)) (λ ns. keyedTimes (λ ms. passOver depth places.itemBits 0 false ms) keys more ns)
@@ -164,11 +177,14 @@ items-key-at-requires t c κs =
 
 items-at-requires : (t : ℕ) → items-lts.Need-at-requires (items-claims t) (items-at t) items.Post items-Inv-loop items-μ-loop
 items-at-requires t c κs =
-    let r = c .before .before .loop .inv (c .before .before .before .before .before .pre .1 .0) (c .before .before .before .before .before .pre .1 .1) in
-    (omega (arith, c .before .before .before .before .before .pre .0), (r .so, r .agrees))
+    let s : items-lts.Start (items-claims t) (items-at t) items.Post items-Inv-loop items-μ-loop = search in
+    let r = c .before .before .loop .inv (s .pre .1 .0) (s .pre .1 .1) in
+    (omega (arith, s .pre .0), (r .so, r .agrees))
 
 items-loop-again : (t : ℕ) → items-lts.Need-loop-again (items-claims t) (items-at t) items.Post items-Inv-loop items-μ-loop
-items-loop-again t c = λ x a. rw (c .with-key .ensures) (keyed-turn _ (c .before .before .before .before .before .loop .keys) (c .before .before .before .before .before .loop .more) (c .before .before .before .key-at .result) (omega arith) (c .before .before .before .before .before .loop .inv x a) (c .before .before .before .key-at .ensures .1) (c .before .before .at .ensures) (c .before .unless-key .ensures))
+items-loop-again t c =
+    let at-loop : items-lts.At-loop (items-claims t) (items-at t) items.Post items-Inv-loop items-μ-loop = search in
+    λ x a. rw (c .with-key .ensures) (keyed-turn _ (at-loop .loop .keys) (at-loop .loop .more) (c .before .before .before .key-at .result) (omega arith) (at-loop .loop .inv x a) (c .before .before .before .key-at .ensures .1) (c .before .before .at .ensures) (c .before .unless-key .ensures))
 
 items-returns : (t : ℕ) → items-lts.Need-returns (items-claims t) (items-at t) items.Post items-Inv-loop items-μ-loop
 items-returns t c = λ x a. keyed-end _ (c .before .loop .keys) (c .before .loop .more) (omega arith) (c .before .loop .inv x a)
@@ -196,56 +212,90 @@ node-returns-2 : (t : ℕ) → node-lts.Need-returns-2 (node-claims t) (node-at 
 node-returns-2 t c = let a = c .before .before .before .before .args in rw (no-node (a .depth) (a .place) (a .loops) (a .inside) (a .contents .now) (a .bodies .now) (c .if2 .taken)) refuses
 
 node-shared-slice-read-wide : (t : ℕ) → node-lts.Need-shared-slice-read-wide (node-claims t) (node-at t) node.Post
-node-shared-slice-read-wide t c = let g = first (c .before .before .before .before .before .before .pre .1 .room) (omega arith) in omega (arith, g .two)
+node-shared-slice-read-wide t c =
+    let s : node-lts.Start (node-claims t) (node-at t) node.Post = search in
+    let g = first (s .pre .1 .room) (omega arith) in omega (arith, g .two)
 
 node-may-stand-requires : (t : ℕ) → node-lts.Need-may-stand-requires (node-claims t) (node-at t) node.Post
-node-may-stand-requires t c κs = let g = first (c .before .before .before .before .before .before .before .before .pre .1 .room) (omega arith) in omega (arith, g .known, c .wide2 .ensures .0)
+node-may-stand-requires t c κs =
+    let s : node-lts.Start (node-claims t) (node-at t) node.Post = search in
+    let g = first (s .pre .1 .room) (omega arith) in omega (arith, g .known, c .wide2 .ensures .0)
 
 node-returns-3 : (t : ℕ) → node-lts.Need-returns-3 (node-claims t) (node-at t) node.Post
 node-returns-3 t c =
-    let a = c .before .before .before .before .before .before .before .before .before .before .args in
-    let fit = c .before .before .before .before .before .before .before .before .before .before .pre .1 in
+    let else1 : node-lts.Else1 (node-claims t) (node-at t) node.Post = search in
+    let s : node-lts.Start (node-claims t) (node-at t) node.Post = search in
+    let a = s .args in
+    let fit = s .pre .1 in
     let g = first (fit .room) (omega arith) in
-    rw (not-there (a .depth) (a .place) (a .loops) (a .inside) (c .before .before .before .before .before .before .before .if1 .left) fit g (rw (← c .before .before .wide2 .ensures .0) (sym (c .before .may-stand .ensures) ∙ not-true (c .before .may-stand .result) (c .if3 .taken)))) refuses
+    rw (not-there (a .depth) (a .place) (a .loops) (a .inside) (else1 .if1 .left) fit g (rw (← c .before .before .wide2 .ensures .0) (sym (c .before .may-stand .ensures) ∙ not-true (c .before .may-stand .result) (c .if3 .taken)))) refuses
 
 node-plan-of-requires : (t : ℕ) → node-lts.Need-plan-of-requires (node-claims t) (node-at t) node.Post
-node-plan-of-requires t c κs = let g = first (c .before .before .before .before .before .before .before .before .before .before .before .pre .1 .room) (omega arith) in (g .least, g .known, c .first-byte .ensures .1)
+node-plan-of-requires t c κs =
+    let s : node-lts.Start (node-claims t) (node-at t) node.Post = search in
+    let g = first (s .pre .1 .room) (omega arith) in (g .least, g .known, c .first-byte .ensures .1)
 
 node-items-requires : (t : ℕ) → node-lts.Need-items-requires (node-claims t) (node-at t) node.Post
 node-items-requires t c κs =
-    let a = c .before .before .before .before .before .before .before .before .before .before .before .before .before .before .before .args in
-    let fit = c .before .before .before .before .before .before .before .before .before .before .before .before .before .before .before .pre .1 in
+    let else3 : node-lts.Else3 (node-claims t) (node-at t) node.Post = search in
+    let at-may-stand : node-lts.After-may-stand (node-claims t) (node-at t) node.Post = search in
+    let at-wide2 : node-lts.After-wide2 (node-claims t) (node-at t) node.Post = search in
+    let at-wide : node-lts.After-wide (node-claims t) (node-at t) node.Post = search in
+    let else1 : node-lts.Else1 (node-claims t) (node-at t) node.Post = search in
+    let s : node-lts.Start (node-claims t) (node-at t) node.Post = search in
+    let a = s .args in
+    let fit = s .pre .1 in
     let g = first (fit .room) (omega arith) in
-    let there : stands (a .place) (getD (a .contents .now) 0 0) ≡ true = rw (← c .before .before .before .before .before .before .before .wide2 .ensures .0) (sym (c .before .before .before .before .before .before .may-stand .ensures) ∙ not-false (c .before .before .before .before .before .before .may-stand .result) (c .before .before .before .before .before .if3 .left)) in
-    let ep = rw (c .before .before .before .before .before .before .before .before .wide .ensures .0, c .before .before .before .before .first-byte .ensures .0) at (c .before .before .before .plan-of .ensures) in
-    (omega (arith, c .before .before .before .before .before .before .before .before .before .before .before .before .before .before .before .pre .0), starts (a .depth) (a .place) (a .loops) (a .inside) (c .before .before .before .before .before .before .before .before .before .before .before .before .if1 .left) fit g there ep (c .before .before .size .ensures .0) (c .before .begin .ensures))
+    let there : stands (a .place) (getD (a .contents .now) 0 0) ≡ true = rw (← at-wide2 .wide2 .ensures .0) (sym (at-may-stand .may-stand .ensures) ∙ not-false (at-may-stand .may-stand .result) (else3 .if3 .left)) in
+    let ep = rw (at-wide .wide .ensures .0, c .before .before .before .before .first-byte .ensures .0) at (c .before .before .before .plan-of .ensures) in
+    (omega (arith, s .pre .0), starts (a .depth) (a .place) (a .loops) (a .inside) (else1 .if1 .left) fit g there ep (c .before .before .size .ensures .0) (c .before .begin .ensures))
 
 node-returns-4 : (t : ℕ) → node-lts.Need-returns-4 (node-claims t) (node-at t) node.Post
 node-returns-4 t c =
-    let a = c .before .before .before .before .before .before .before .before .before .before .before .before .before .before .before .before .args in
-    let fit = c .before .before .before .before .before .before .before .before .before .before .before .before .before .before .before .before .pre .1 in
+    let at-first-byte : node-lts.After-first-byte (node-claims t) (node-at t) node.Post = search in
+    let else3 : node-lts.Else3 (node-claims t) (node-at t) node.Post = search in
+    let at-may-stand : node-lts.After-may-stand (node-claims t) (node-at t) node.Post = search in
+    let at-wide2 : node-lts.After-wide2 (node-claims t) (node-at t) node.Post = search in
+    let at-wide : node-lts.After-wide (node-claims t) (node-at t) node.Post = search in
+    let else1 : node-lts.Else1 (node-claims t) (node-at t) node.Post = search in
+    let s : node-lts.Start (node-claims t) (node-at t) node.Post = search in
+    let a = s .args in
+    let fit = s .pre .1 in
     let g = first (fit .room) (omega arith) in
-    let there : stands (a .place) (getD (a .contents .now) 0 0) ≡ true = rw (← c .before .before .before .before .before .before .before .before .wide2 .ensures .0) (sym (c .before .before .before .before .before .before .before .may-stand .ensures) ∙ not-false (c .before .before .before .before .before .before .before .may-stand .result) (c .before .before .before .before .before .before .if3 .left)) in
-    let ep = rw (c .before .before .before .before .before .before .before .before .before .wide .ensures .0, c .before .before .before .before .before .first-byte .ensures .0) at (c .before .before .before .before .plan-of .ensures) in
-    table-node (a .depth) (a .place) (a .loops) (a .inside) (c .before .before .before .before .before .before .before .before .before .before .before .before .before .if1 .left) fit g there ep (c .before .before .before .size .ensures .0) (c .before .before .begin .ensures) (c .before .if4 .taken) (c .before .before .before .before .before .before .before .before .before .wide .ensures .0) (c .items .ensures)
+    let there : stands (a .place) (getD (a .contents .now) 0 0) ≡ true = rw (← at-wide2 .wide2 .ensures .0) (sym (at-may-stand .may-stand .ensures) ∙ not-false (at-may-stand .may-stand .result) (else3 .if3 .left)) in
+    let ep = rw (at-wide .wide .ensures .0, at-first-byte .first-byte .ensures .0) at (c .before .before .before .before .plan-of .ensures) in
+    table-node (a .depth) (a .place) (a .loops) (a .inside) (else1 .if1 .left) fit g there ep (c .before .before .before .size .ensures .0) (c .before .before .begin .ensures) (c .before .if4 .taken) (at-wide .wide .ensures .0) (c .items .ensures)
 
 node-kids-requires : (t : ℕ) → node-lts.Need-kids-requires (node-claims t) (node-at t) node.Post
 node-kids-requires t c κs =
-    let a = c .before .before .before .before .before .before .before .before .before .before .before .before .before .before .before .args in
-    let fit = c .before .before .before .before .before .before .before .before .before .before .before .before .before .before .before .pre .1 in
+    let else3 : node-lts.Else3 (node-claims t) (node-at t) node.Post = search in
+    let at-may-stand : node-lts.After-may-stand (node-claims t) (node-at t) node.Post = search in
+    let at-wide2 : node-lts.After-wide2 (node-claims t) (node-at t) node.Post = search in
+    let at-wide : node-lts.After-wide (node-claims t) (node-at t) node.Post = search in
+    let else1 : node-lts.Else1 (node-claims t) (node-at t) node.Post = search in
+    let s : node-lts.Start (node-claims t) (node-at t) node.Post = search in
+    let a = s .args in
+    let fit = s .pre .1 in
     let g = first (fit .room) (omega arith) in
-    let there : stands (a .place) (getD (a .contents .now) 0 0) ≡ true = rw (← c .before .before .before .before .before .before .before .wide2 .ensures .0) (sym (c .before .before .before .before .before .before .may-stand .ensures) ∙ not-false (c .before .before .before .before .before .before .may-stand .result) (c .before .before .before .before .before .if3 .left)) in
-    let ep = rw (c .before .before .before .before .before .before .before .before .wide .ensures .0, c .before .before .before .before .first-byte .ensures .0) at (c .before .before .before .plan-of .ensures) in
-    (omega (arith, c .before .before .before .before .before .before .before .before .before .before .before .before .before .before .before .pre .0), starts (a .depth) (a .place) (a .loops) (a .inside) (c .before .before .before .before .before .before .before .before .before .before .before .before .if1 .left) fit g there ep (c .before .before .size .ensures .0) (c .before .begin .ensures))
+    let there : stands (a .place) (getD (a .contents .now) 0 0) ≡ true = rw (← at-wide2 .wide2 .ensures .0) (sym (at-may-stand .may-stand .ensures) ∙ not-false (at-may-stand .may-stand .result) (else3 .if3 .left)) in
+    let ep = rw (at-wide .wide .ensures .0, c .before .before .before .before .first-byte .ensures .0) at (c .before .before .before .plan-of .ensures) in
+    (omega (arith, s .pre .0), starts (a .depth) (a .place) (a .loops) (a .inside) (else1 .if1 .left) fit g there ep (c .before .before .size .ensures .0) (c .before .begin .ensures))
 
 node-returns-5 : (t : ℕ) → node-lts.Need-returns-5 (node-claims t) (node-at t) node.Post
 node-returns-5 t c =
-    let a = c .before .before .before .before .before .before .before .before .before .before .before .before .before .before .before .before .args in
-    let fit = c .before .before .before .before .before .before .before .before .before .before .before .before .before .before .before .before .pre .1 in
+    let at-first-byte : node-lts.After-first-byte (node-claims t) (node-at t) node.Post = search in
+    let else3 : node-lts.Else3 (node-claims t) (node-at t) node.Post = search in
+    let at-may-stand : node-lts.After-may-stand (node-claims t) (node-at t) node.Post = search in
+    let at-wide2 : node-lts.After-wide2 (node-claims t) (node-at t) node.Post = search in
+    let at-wide : node-lts.After-wide (node-claims t) (node-at t) node.Post = search in
+    let else1 : node-lts.Else1 (node-claims t) (node-at t) node.Post = search in
+    let s : node-lts.Start (node-claims t) (node-at t) node.Post = search in
+    let a = s .args in
+    let fit = s .pre .1 in
     let g = first (fit .room) (omega arith) in
-    let there : stands (a .place) (getD (a .contents .now) 0 0) ≡ true = rw (← c .before .before .before .before .before .before .before .before .wide2 .ensures .0) (sym (c .before .before .before .before .before .before .before .may-stand .ensures) ∙ not-false (c .before .before .before .before .before .before .before .may-stand .result) (c .before .before .before .before .before .before .if3 .left)) in
-    let ep = rw (c .before .before .before .before .before .before .before .before .before .wide .ensures .0, c .before .before .before .before .before .first-byte .ensures .0) at (c .before .before .before .before .plan-of .ensures) in
-    other-node (a .depth) (a .place) (a .loops) (a .inside) (c .before .before .before .before .before .before .before .before .before .before .before .before .before .if1 .left) fit g there ep (c .before .before .before .size .ensures .0) (c .before .before .begin .ensures) (c .before .if4 .left) (c .kids .ensures)
+    let there : stands (a .place) (getD (a .contents .now) 0 0) ≡ true = rw (← at-wide2 .wide2 .ensures .0) (sym (at-may-stand .may-stand .ensures) ∙ not-false (at-may-stand .may-stand .result) (else3 .if3 .left)) in
+    let ep = rw (at-wide .wide .ensures .0, at-first-byte .first-byte .ensures .0) at (c .before .before .before .before .plan-of .ensures) in
+    other-node (a .depth) (a .place) (a .loops) (a .inside) (else1 .if1 .left) fit g there ep (c .before .before .before .size .ensures .0) (c .before .before .begin .ensures) (c .before .if4 .left) (c .kids .ensures)
 
 abbrev run-Inv-loop : run-lts.InvT-loop
 run-Inv-loop place n contents bodies depth loops inside q₀ more₀ q more = (x : Remaining) → Agrees contents bodies x q₀ → Reached contents bodies q (then x (λ ns. times (λ ms. passOver depth place loops inside ms) n ns)) (λ ns. times (λ ms. passOver depth place loops inside ms) more ns)
@@ -255,8 +305,9 @@ run-μ-loop place n contents bodies depth loops inside q₀ more₀ q more = mor
 
 run-at-requires : (t : ℕ) → run-lts.Need-at-requires (at-below t, at.Post) (run-at t) run.Post run-Inv-loop run-μ-loop
 run-at-requires t c κs =
-    let r = c .before .loop .inv (c .before .before .before .before .pre .1 .0) (c .before .before .before .before .pre .1 .1) in
-    (omega (arith, c .before .before .before .before .pre .0), (r .so, r .agrees))
+    let s : run-lts.Start (at-below t, at.Post) (run-at t) run.Post run-Inv-loop run-μ-loop = search in
+    let r = c .before .loop .inv (s .pre .1 .0) (s .pre .1 .1) in
+    (omega (arith, s .pre .0), (r .so, r .agrees))
 
 run-loop-again : (t : ℕ) → run-lts.Need-loop-again (at-below t, at.Post) (run-at t) run.Post run-Inv-loop run-μ-loop
 run-loop-again t c = λ x a. run-turn _ (c .before .before .loop .more) (omega arith) (c .before .before .loop .inv x a) (c .at .ensures)
