@@ -22,6 +22,7 @@ use Rattle.ast.specs.laws.Kinds.{number-kind}
 use Rattle.ast.proofs.Rooms.{First, first, sizeAt}
 use Rattle.lent.specs.laws.Truths.{and-left, and-right}
 use Rattle.lent.specs.Lists.{all}
+use Rattle.lent.specs.laws.Parts.{byte-here}
 
 pub no-first : (b : List ℕ) → length b ≡ 0 → 0 ≡ getD b 0 0
 no-first [] h = refl
@@ -80,16 +81,13 @@ from-field : (b : List ℕ) → getD b 0 0 ≡ field (take 1 b) 0
 from-field [] = refl
 from-field (x ∷ b) = refl
 
-kind-here : (c : List ℕ) (u : ℕ) → getD (drop u c) 0 0 ≡ getD c u 0
-kind-here c u = getD-drop u c 0 0 ∙ ap (λ (j : ℕ). getD c j 0) (add-zero u)
-
 module _ {c b : List ℕ} {u v : ℕ} where
   pub first-here : {x : Remaining} → Here c b x u v → u < length c → First (drop u c) (drop v b)
   first-here h l = first (h .fit .room) (rw length-drop (omega arith))
 
   module _ {x : Remaining} (h : Here c b x u v) (l : u < length c) (e : getD c u 0 ≡ 11) where
     item-kind : getD (drop u c) 0 0 ≡ 11
-    item-kind = kind-here c u ∙ e
+    item-kind = byte-here c u ∙ e
 
     pub key-in : v < length b
     key-in =
@@ -119,12 +117,12 @@ module _ {c b : List ℕ} {u v : ℕ} where
     key-other l n =
         let g = first-here h l in
         rw (left-eq (h .nodes), g .nodes)
-        (not-item (kindOf (getD (drop u c) 0 0)) (getD (drop u c) 1 0) (take (sizeAt (drop u c)) (drop v b)) (nodesFrom (drop 2 (drop u c)) (drop (sizeAt (drop u c)) (drop v b))) (λ e. n (sym (kind-here c u) ∙ sym (number-kind (getD (drop u c) 0 0) (g .least) (g .known)) ∙ e)))
+        (not-item (kindOf (getD (drop u c) 0 0)) (getD (drop u c) 1 0) (take (sizeAt (drop u c)) (drop v b)) (nodesFrom (drop 2 (drop u c)) (drop (sizeAt (drop u c)) (drop v b))) (λ e. n (sym (byte-here c u) ∙ sym (number-kind (getD (drop u c) 0 0) (g .least) (g .known)) ∙ e)))
 
     pub key-item : u < length c → getD c u 0 ≡ 11 → getD b v 0 ≡ keyOf ns
     key-item l e =
         let g = first-here h l in
-        let k : getD (drop u c) 0 0 ≡ 11 = kind-here c u ∙ e in
+        let k : getD (drop u c) 0 0 ≡ 11 = byte-here c u ∙ e in
         let w : getD (drop v b) 0 0 ≡ getD b v 0 = getD-drop v b 0 0 ∙ ap (λ (j : ℕ). getD b j 0) (add-zero v) in
         rw (left-eq (h .nodes), g .nodes, k) (sym w ∙ from-field (drop v b))
 

@@ -1,6 +1,6 @@
 -- The stored tables against those of the code: `labelBytes` and `functionBytes`.
 use mathlib.Core.Path.{_≡_, refl, sym, ap, ap₂, _∙_}
-use mathlib.Core.Bool.{Bool, true, false, cond, not, _&&_, and-assoc}
+use mathlib.Core.Bool.{Bool, true, false, cond, not, _&&_}
 use mathlib.Core.List.{List, [], _∷_, _++_}
 use mathlib.Core.Option.{Option, none, some}
 use Prim.Native.Nat.{ℕ, zero, suc, _+_, _*_, _-_, _≤_, _<_}
@@ -12,7 +12,7 @@ use Rattle.lent.specs.Bytes.{beValue, beBytes, part, sameBytes, concat, AreByte
 use Rattle.lent.specs.laws.Each.{each-part}
 use Rattle.lent.specs.laws.Parts.{length-part, part-add}
 use Rattle.lent.specs.laws.Numbers.{beValue-beBytes, beBytes-beValue, length-beBytes}
-use Rattle.lent.specs.laws.Same.{eq-same, ne-same}
+use Rattle.lent.specs.laws.Same.{eq-same, ne-same, same-append}
 use Rattle.opc.specs.Op.{label, op, Code}
 use Rattle.tables.specs.Tables.{declares, entered, labelAt, declared, functionAt}
 use Rattle.tables.specs.ProgramBytes.{indexWord, labelBytes, functionBytes}
@@ -22,13 +22,6 @@ use Rattle.records.proofs.Scan.{scan-same}
 use Rattle.lent.specs.Lists.{tabulate, each}
 
 -- ---- a table in its bytes
-
-same-append : (p q r s : List ℕ) → length p ≡ length r → sameBytes (p ++ q) (r ++ s) ≡ (sameBytes p r && sameBytes q s)
-same-append [] q [] s e = refl
-same-append [] q (y ∷ r) s e = absurd (omega arith)
-same-append (x ∷ p) q [] s e = absurd (omega arith)
-same-append (x ∷ p) q (y ∷ r) s e =
-    ap (λ (t : Bool). eqb x y && t) (same-append p q r s (omega arith)) ∙ sym (and-assoc (eqb x y) (sameBytes p r) (sameBytes q s))
 
 -- two bytes are those of a number, or the numbers differ
 same-two : (p : List ℕ) (v : ℕ) → AreBytes p → length p ≡ 2 → v < 65536 → sameBytes p (beBytes 2 v) ≡ eqb (beValue p + 1) (suc v)

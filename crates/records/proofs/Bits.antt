@@ -10,14 +10,9 @@ use lib.Bits.{bitAnd, and-block, and-high, and-zero-r}
 use lib.ListN.{length}
 use borrow.Author.Tests.{leb-true, leb-false, le-leb, lt-leb, eqb-true, eq-eqb}
 use Rattle.lent.specs.Bytes.{AreBytes, none, more}
-use Rattle.lent.specs.laws.Truths.{and-inv}
+use Rattle.lent.specs.laws.Truths.{and-inv, test-iff}
 use Rattle.sifv.specs.laws.Layout.{and-left, and-right, and-both}
 use Rattle.records.specs.inner.Lanes.{leValue, laneMask, laneAdd}
-
-pub iff : (s t : Bool) → (s ≡ true → t ≡ true) → (t ≡ true → s ≡ true) → s ≡ t
-iff true t f g = sym (f refl)
-iff false true f g = g refl
-iff false false f g = refl
 
 pub split5 : (a b c d e : Bool) → (a && (b && (c && (d && e)))) ≡ true → (a ≡ true) × (b ≡ true) × (c ≡ true) × (d ≡ true) × (e ≡ true)
 split5 a b c d e q =
@@ -33,30 +28,30 @@ pub and-128 : (y : ℕ) → y < 256 → eqb (bitAnd y 128) 0 ≡ leb y 127
 and-128 y h =
     let l : y / 128 < 2 = omega arith in
     let e : bitAnd y 128 ≡ y / 128 * 128 = and-high y 1 7 ∙ ap (λ (v : ℕ). v * 128) (mod-eq-of-lt l) in
-    iff _ _ (λ q. le-leb y 127 (omega (arith, e, eqb-true (bitAnd y 128) 0 q))) (λ q. eq-eqb (bitAnd y 128) 0 (omega (arith, e, leb-true y 127 q)))
+    test-iff _ _ (λ q. le-leb y 127 (omega (arith, e, eqb-true (bitAnd y 128) 0 q))) (λ q. eq-eqb (bitAnd y 128) 0 (omega (arith, e, leb-true y 127 q)))
 
 pub and-255 : (y : ℕ) → y < 256 → eqb (bitAnd y 255) 0 ≡ leb y 0
 and-255 y h =
     let e : bitAnd y 255 ≡ y / 1 % 256 * 1 = and-high y 8 0 in
-    iff _ _ (λ q. le-leb y 0 (omega (arith, e, eqb-true (bitAnd y 255) 0 q))) (λ q. eq-eqb (bitAnd y 255) 0 (omega (arith, e, leb-true y 0 q)))
+    test-iff _ _ (λ q. le-leb y 0 (omega (arith, e, eqb-true (bitAnd y 255) 0 q))) (λ q. eq-eqb (bitAnd y 255) 0 (omega (arith, e, leb-true y 0 q)))
 
 pub and-252 : (y : ℕ) → y < 256 → eqb (bitAnd y 252) 0 ≡ leb y 3
 and-252 y h =
     let l : y / 4 < 64 = omega arith in
     let e : bitAnd y 252 ≡ y / 4 * 4 = and-high y 6 2 ∙ ap (λ (v : ℕ). v * 4) (mod-eq-of-lt l) in
-    iff _ _ (λ q. le-leb y 3 (omega (arith, e, eqb-true (bitAnd y 252) 0 q))) (λ q. eq-eqb (bitAnd y 252) 0 (omega (arith, e, leb-true y 3 q)))
+    test-iff _ _ (λ q. le-leb y 3 (omega (arith, e, eqb-true (bitAnd y 252) 0 q))) (λ q. eq-eqb (bitAnd y 252) 0 (omega (arith, e, leb-true y 3 q)))
 
 pub and-192 : (y : ℕ) → y < 256 → eqb (bitAnd y 192) 0 ≡ leb y 63
 and-192 y h =
     let l : y / 64 < 4 = omega arith in
     let e : bitAnd y 192 ≡ y / 64 * 64 = and-high y 2 6 ∙ ap (λ (v : ℕ). v * 64) (mod-eq-of-lt l) in
-    iff _ _ (λ q. le-leb y 63 (omega (arith, e, eqb-true (bitAnd y 192) 0 q))) (λ q. eq-eqb (bitAnd y 192) 0 (omega (arith, e, leb-true y 63 q)))
+    test-iff _ _ (λ q. le-leb y 63 (omega (arith, e, eqb-true (bitAnd y 192) 0 q))) (λ q. eq-eqb (bitAnd y 192) 0 (omega (arith, e, leb-true y 63 q)))
 
 pub and-254 : (y : ℕ) → y < 256 → eqb (bitAnd y 254) 0 ≡ leb y 1
 and-254 y h =
     let l : y / 2 < 128 = omega arith in
     let e : bitAnd y 254 ≡ y / 2 * 2 = and-high y 7 1 ∙ ap (λ (v : ℕ). v * 2) (mod-eq-of-lt l) in
-    iff _ _ (λ q. le-leb y 1 (omega (arith, e, eqb-true (bitAnd y 254) 0 q))) (λ q. eq-eqb (bitAnd y 254) 0 (omega (arith, e, leb-true y 1 q)))
+    test-iff _ _ (λ q. le-leb y 1 (omega (arith, e, eqb-true (bitAnd y 254) 0 q))) (λ q. eq-eqb (bitAnd y 254) 0 (omega (arith, e, leb-true y 1 q)))
 
 pub and-0 : (y : ℕ) → y < 256 → eqb (bitAnd y 0) 0 ≡ leb y 255
 and-0 y h = rw (and-zero-r y) (sym (le-leb y 255 (omega arith)))
@@ -70,7 +65,7 @@ clear (x ∷ xs) (m ∷ ms) = eqb (bitAnd x m) 0 && clear xs ms
 
 zero-both : (p q : ℕ) → eqb (p * 256 + q) 0 ≡ (eqb q 0 && eqb p 0)
 zero-both p q =
-    iff _ _ (λ e. and-both (eq-eqb q 0 (omega (arith, eqb-true (p * 256 + q) 0 e))) (eq-eqb p 0 (omega (arith, eqb-true (p * 256 + q) 0 e))))
+    test-iff _ _ (λ e. and-both (eq-eqb q 0 (omega (arith, eqb-true (p * 256 + q) 0 e))) (eq-eqb p 0 (omega (arith, eqb-true (p * 256 + q) 0 e))))
     (λ e. eq-eqb (p * 256 + q) 0 (omega (arith, eqb-true q 0 (and-left (eqb q 0) (eqb p 0) e), eqb-true p 0 (and-right (eqb q 0) (eqb p 0) e))))
 
 pub and-clear : (xs ms : List ℕ) → AreBytes xs → AreBytes ms → length xs ≡ length ms → eqb (bitAnd (leValue xs) (leValue ms)) 0 ≡ clear xs ms
@@ -116,7 +111,7 @@ module _ (x l : ℕ) (h : x < 256) where
       within q true e =
           let k : x ≤ 127 = leb-true x 127 e in
           and-128 (x + (127 - l)) (omega arith)
-          ∙ iff _ _ (λ p. le-leb x l (omega (arith, leb-true (x + (127 - l)) 127 p))) (λ p. le-leb (x + (127 - l)) 127 (omega (arith, leb-true x l p)))
+          ∙ test-iff _ _ (λ p. le-leb x l (omega (arith, leb-true (x + (127 - l)) 127 p))) (λ p. le-leb (x + (127 - l)) 127 (omega (arith, leb-true x l p)))
       within q false e = sym (lt-leb x l (omega (arith, leb-false x 127 e)))
 
       by-test : (t : Bool) → leb l 127 ≡ t → (t || eqb l 255) ≡ true → (eqb (bitAnd x (cond t 128 0)) 0 && eqb (bitAnd (x + cond t (127 - l) 0) (cond t 128 0)) 0) ≡ leb x l

@@ -10,12 +10,12 @@ use lib.ListN.{length, getD}
 use borrow.Author.Tests.{leb-true, le-leb, eqb-true}
 use Rattle.lent.specs.Bytes.{beValue, part, AreBytes, none, more}
 use Rattle.lent.specs.laws.Numbers.{beValue-one, beValue-two, beValue-part}
-use Rattle.lent.specs.laws.Truths.{and-inv}
+use Rattle.lent.specs.laws.Truths.{and-inv, test-iff}
 use Rattle.sifv.specs.laws.Layout.{and-left, and-right, and-both}
 use Rattle.opc.specs.Record.{fieldsOf, lblOk}
 use Rattle.records.specs.inner.Fits.{limitTable, noKind, limitsOf, operandsFit, kindFits, wordFits, singleMost, isLiteral, literalFits, recordFits, entryFits}
 use Rattle.records.specs.inner.Lanes.{leValue, eight, laneMask, laneAdd, masks, adds, highMask, anyMask, wordMask, singleMask, limitWords}
-use Rattle.records.proofs.Bits.{iff, and-252, and-255, and-192, and-254, and-0, and-clear, laneOk, mask-small, add-small, lane-small, lane-out, lane-in, five, five-split, and-five, split5, sum-eight}
+use Rattle.records.proofs.Bits.{and-252, and-255, and-192, and-254, and-0, and-clear, laneOk, mask-small, add-small, lane-small, lane-out, lane-in, five, five-split, and-five, split5, sum-eight}
 use Rattle.records.proofs.Places.{first-byte, byte-of, word-of}
 
 -- ---- the limits of all operations
@@ -65,7 +65,7 @@ module _ (b : List ℕ) (small : (i : ℕ) → getD b i 0 < 256) (at : ℕ) (roo
       let z : 255 < 256 = omega arith in
       and-clear (eight b at) (highMask x y) bytes (more z (more z (more z (more z (more z (more z (more hx (more hy none)))))))) refl
       ∙ rw (and-255 (getD b at 0) (small at), and-255 (getD b (at + 1) 0) (small (at + 1)), and-255 (getD b (at + 2) 0) (small (at + 2)), and-255 (getD b (at + 3) 0) (small (at + 3)), and-255 (getD b (at + 4) 0) (small (at + 4)), and-255 (getD b (at + 5) 0) (small (at + 5)), ex, ey, and-true (leb (getD b (at + 7) 0) q))
-      (iff (low p q) (leb (beValue (part b at 8)) n) fits unfits)
+      (test-iff (low p q) (leb (beValue (part b at 8)) n) fits unfits)
     where
       fits : low p q ≡ true → leb (beValue (part b at 8)) n ≡ true
       fits t =
@@ -174,7 +174,7 @@ module _ (x0 x1 x2 x3 x4 x5 x6 x7 k a b c s : ℕ) (h0 : x0 < 256) (h1 : x1 < 25
       and-both (test ∙ t) (sum-test t ∙ u)
 
   pub fields-fit : (eqb (bitAnd lanes mask) 0 && eqb (bitAnd lanesSum mask) 0) ≡ lanesOk
-  fields-fit = iff (eqb (bitAnd lanes mask) 0 && eqb (bitAnd lanesSum mask) 0) lanesOk fits unfits
+  fields-fit = test-iff (eqb (bitAnd lanes mask) 0 && eqb (bitAnd lanesSum mask) 0) lanesOk fits unfits
 
 -- ---- a record
 
@@ -202,7 +202,7 @@ module _ (b : List ℕ) (small : (i : ℕ) → getD b i 0 < 256) (at : ℕ) (roo
       let e = beValue-two b (at + 2) (omega arith) in
       let k = small (at + 2 + 1) in
       let n = beValue (part b (at + 2) 2) in
-      iff (leb (getD b (at + 2) 0) 3) (leb n 1023) (λ q. le-leb n 1023 (omega (arith, e, k, leb-true (getD b (at + 2) 0) 3 q))) (λ q. le-leb (getD b (at + 2) 0) 3 (omega (arith, e, k, leb-true n 1023 q)))
+      test-iff (leb (getD b (at + 2) 0) 3) (leb n 1023) (λ q. le-leb n 1023 (omega (arith, e, k, leb-true (getD b (at + 2) 0) 3 q))) (λ q. le-leb (getD b (at + 2) 0) 3 (omega (arith, e, k, leb-true n 1023 q)))
 
   whole : fitting (getD b at 0) (getD b (at + 1) 0) (beValue (part b (at + 2) 2)) (getD b (at + 4) 0) (getD b (at + 5) 0) (getD b (at + 6) 0) (getD b (at + 7) 0) (beValue (part b (at + 8) 8)) ≡ recordFits (fieldsOf (part b at 16))
   whole = rw (first-byte b at, byte-of b at 1 (omega arith), byte-of b at 4 (omega arith), byte-of b at 5 (omega arith), byte-of b at 6 (omega arith), byte-of b at 7 (omega arith), word-of b at 2 2 (omega arith), word-of b at 8 8 (omega arith))

@@ -1,5 +1,5 @@
 -- What a conjunction of tests says.
-use mathlib.Core.Path.{_≡_, refl}
+use mathlib.Core.Path.{_≡_, refl, sym}
 use mathlib.Core.Bool.{Bool, true, false, _&&_}
 use Prim.Native.Nat.{ℕ}
 use native.Mathlib.Omega.{arith}
@@ -16,3 +16,9 @@ and-right a b e = and-inv a b e .1
 
 pub and-both : {a b : Bool} → a ≡ true → b ≡ true → (a && b) ≡ true
 and-both e f = rw e f
+
+-- tests that hold together are the same
+pub test-iff : (a b : Bool) → (a ≡ true → b ≡ true) → (b ≡ true → a ≡ true) → a ≡ b
+test-iff true b f g = sym (f refl)
+test-iff false true f g = g refl
+test-iff false false f g = refl

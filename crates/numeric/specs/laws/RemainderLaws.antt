@@ -10,9 +10,9 @@ use Rattle.numeric.specs.Remainder.{Remainder, modu}
 -- ---- worked examples
 
 -- 5.5 % 2 is 1.5, -5.5 % 2 is -1.5, 5.5 % -2 is 1.5, -4 % 2 is -0
-plain : Remainder (fin false 11 (negsuc 0)) (fin false 1 (pos 1)) (fin false 3 (negsuc 0))
+positive : Remainder (fin false 11 (negsuc 0)) (fin false 1 (pos 1)) (fin false 3 (negsuc 0))
 unfolding fits
-plain = (tt, (refl, refl))
+positive = (tt, (refl, refl))
 
 negative : Remainder (fin true 11 (negsuc 0)) (fin false 1 (pos 1)) (fin true 3 (negsuc 0))
 unfolding fits

@@ -17,8 +17,8 @@ use Rattle.lent.specs.Lists.{pad, zeros, upto}
 use Rattle.lent.specs.laws.Each.{each-part, byte-at}
 use Rattle.lent.specs.laws.Numbers.{beBytes-beValue, beValue-beBytes, beValue-one, beValue-part, beValue-part-lt}
 use Rattle.lent.specs.laws.Parts.{length-part, getD-part, part-all, part-one, part-cons, part-add, part-part}
-use Rattle.lent.specs.laws.Same.{same-refl, eq-same, same-eq}
-use Rattle.lent.specs.laws.Truths.{and-left, and-right, and-both}
+use Rattle.lent.specs.laws.Same.{same-refl, eq-same, same-eq, same-append}
+use Rattle.lent.specs.laws.Truths.{and-left, and-right, and-both, test-iff}
 use Rattle.numeric.specs.inner.Fields.{sign, infinity}
 use Rattle.numeric.specs.laws.PatternLaws.{no-nan-canonical}
 use Rattle.sifv.specs.Value.{Single, Num, Str, Bl, Null}
@@ -29,11 +29,6 @@ use Rattle.sifv.specs.laws.Checks.{same-sym}
 use Rattle.sifv.specs.laws.Items.{contents-more, length-kinds, length-numbers, kinds-more, words-more}
 use Rattle.sifv.specs.laws.Laws.{length-singles}
 use Rattle.sifv.specs.laws.Layout.{length-pad}
-
-test-iff : (a b : Bool) → (a ≡ true → b ≡ true) → (b ≡ true → a ≡ true) → a ≡ b
-test-iff true b f g = sym (f refl)
-test-iff false true f g = absurd (false≢true (g refl))
-test-iff false false f g = refl
 
 -- ---- scans: the answer so far is that of the tests below i
 
@@ -136,19 +131,6 @@ moderate-numbers-law b n y l h t =
     (and-right (upto n (numberTest b)) (upto n (moderateTest b)) t))
 
 -- ---- bytes that are the same
-
-same-append : (a b c d : List ℕ) → length a ≡ length c → sameBytes (a ++ b) (c ++ d) ≡ (sameBytes a c && sameBytes b d)
-same-append [] b [] d h = refl
-same-append [] b (y ∷ c) d h = absurd (zero-not-suc h)
-  where
-    zero-not-suc : 0 ≡ suc (length c) → ⊥
-    zero-not-suc e = omega arith
-same-append (x ∷ a) b [] d h = absurd (suc-not-zero h)
-  where
-    suc-not-zero : suc (length a) ≡ 0 → ⊥
-    suc-not-zero e = omega arith
-same-append (x ∷ a) b (y ∷ c) d h =
-    ap (λ (t : Bool). eqb x y && t) (same-append a b c d (omega arith)) ∙ sym (and-assoc (eqb x y) (sameBytes a c) (sameBytes b d))
 
 same-word : (l : List ℕ) (u : ℕ) → AreBytes l → length l ≡ 8 → u < 2 ^ 64 → sameBytes (beBytes 8 u) l ≡ eqb u (beValue l)
 same-word l u y e h =

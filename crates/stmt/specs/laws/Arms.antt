@@ -27,6 +27,7 @@ use Rattle.stmt.specs.laws.Regs.{block-regs}
 use Rattle.stmt.specs.laws.Patch.{Next, did-at, next-did, arm-did}
 use Rattle.stmt.specs.laws.Leaves.{emitted-ready, emitted-lbl, emitted-cont, emitted-body}
 use Rattle.stmt.specs.laws.Kinds.{Is, is-if, kind-here, stmt-size, expr-size, entries-both, bodies-both, in-at, count-at, body-here, reads-nodes, reads-bodies, goes-ready, goes-cont, goes-body, goes-lbl}
+use Rattle.compiler.specs.laws.Events.{else-labels}
 
 -- ---- the parts of an arm
 
@@ -271,10 +272,6 @@ elif-arm c b p q e j m ej x s k d =
     and-both true true h i = tt
     and-both true false h i = i
     and-both false z h i = absurd h
-
-else-labels : (t : Stmts) → stmtsLabels t ≤ elseLabels t (stmtsLabels t)
-else-labels noStmts = omega arith
-else-labels (moreStmts s t) = omega arith
 
 else-list : (c b : List ℕ) (p : Done) (e m : ℕ) (k : Stmts) → At (rests (p .lbl) e m) (Else k) (drop (p .cont) c) (drop (p .body) b) → At (lists (p .lbl) m) k (drop (p .cont) c) (drop (p .body) b)
 else-list c b p e m k d = record { spells = d .spells; ok = (d .ok .1, d .ok .2, omega (arith, d .ok .3, else-labels k)) }

@@ -22,8 +22,9 @@ use Rattle.stmt.specs.inner.Parts.{anyText, fits, Emitted, forHead, forT
 use Rattle.stmt.specs.laws.Regs.{source-regs, block-regs}
 use Rattle.emit.specs.laws.Regs.{regs-append}
 use Rattle.stmt.specs.laws.Fors.{source-node, source-named}
-use Rattle.stmt.specs.laws.Leaves.{byte-here, emitted-ready, emitted-lbl, emitted-cont, emitted-body}
+use Rattle.stmt.specs.laws.Leaves.{emitted-ready, emitted-lbl, emitted-cont, emitted-body}
 use Rattle.stmt.specs.laws.Kinds.{Is, is-for, kind-here, entries-both, bodies-both, in-at, body-here, body-next, reads-nodes, reads-bodies, goes-ready, goes-cont, goes-body, goes-lbl}
+use Rattle.lent.specs.laws.Parts.{byte-here}
 
 abbrev E : List Node → ℕ
 E ns = length (entryBytes ns)

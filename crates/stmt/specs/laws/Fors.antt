@@ -21,8 +21,9 @@ use Rattle.emit.specs.laws.Places.{made-ready, made-kept, made-reg, made-push, 
 use Rattle.emit.specs.laws.Regs.{expr-regs}
 use Rattle.expr.specs.inner.Parts.{exprs}
 use Rattle.stmt.specs.inner.Parts.{Emitted, forHead, forTail, sourceText, sources}
-use Rattle.stmt.specs.laws.Leaves.{Pushed, Loaded, emit-one, byte-here}
+use Rattle.stmt.specs.laws.Leaves.{Pushed, Loaded, emit-one}
 use Rattle.numeric.specs.Whole.{whole}
+use Rattle.lent.specs.laws.Parts.{byte-here}
 
 -- the bits of 0
 zero-word : wordOf (Num (whole 0)) ≡ 0

@@ -18,7 +18,8 @@ use Rattle.emit.specs.laws.Laws.{some-place}
 use Rattle.emit.specs.laws.Spell.{in-node, first-kind, fits-nodes, fits-bodies}
 use Rattle.emit.specs.laws.Places.{made-ready}
 pub use Rattle.emit.specs.laws.Spell.{entries-both, bodies-both, expr-size}
-use Rattle.stmt.specs.laws.Leaves.{byte-here, byte-at}
+use Rattle.stmt.specs.laws.Leaves.{byte-at}
+use Rattle.lent.specs.laws.Parts.{byte-here}
 
 pub data Is : ℕ → Stmt → Type 0 where
   is-block : {b : Stmts} → Is 2 (Block b)

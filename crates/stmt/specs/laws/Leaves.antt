@@ -1,9 +1,8 @@
 -- Instructions at a place of the tree.
 use Prim.Native.Nat.{ℕ, _+_}
-use mathlib.Core.Path.{_≡_, refl, ap, _∙_}
+use mathlib.Core.Path.{_≡_, refl, ap}
 use mathlib.Core.Bool.{Bool}
 use mathlib.Core.List.{List, [], _∷_}
-use native.Mathlib.Omega.{arith}
 use lib.ListN.{drop, getD}
 use lib.Seq.{getD-drop}
 use Rattle.opc.specs.Op.{Op, instr}
@@ -60,6 +59,3 @@ module _ {f : Place → List Event} {l : ℕ} {k : Bool} {p d : Done} {buf buf�
 -- the byte at a place
 pub byte-at : (c : List ℕ) (u i : ℕ) → getD (drop u c) i 0 ≡ getD c (u + i) 0
 byte-at c u i = getD-drop u c i 0
-
-pub byte-here : (c : List ℕ) (u : ℕ) → getD (drop u c) 0 0 ≡ getD c u 0
-byte-here c u = byte-at c u 0 ∙ ap (λ (i : ℕ). getD c i 0) (omega arith)

@@ -19,7 +19,7 @@ use Rattle.opc.specs.Op.{Instr, instr, label, op, Code}
 use Rattle.opc.specs.Record.{encodeInstr, itemsOf, opFields}
 use Rattle.tables.specs.Tables.{entered, labelAt, declares, declared}
 use Rattle.tables.specs.ProgramBytes.{indexWord, recordBytes, labelBytes}
-use Rattle.tables.specs.laws.ProgramLaws.{length-records}
+use Rattle.tables.specs.laws.ProgramLaws.{length-record, length-records}
 use Rattle.tables.specs.inner.Entries.{tableBytes, SpellsInstr, SpeltAt, Begun, Records}
 use Rattle.lent.specs.Lists.{tabulate}
 use Rattle.opc.specs.Limits.{paramsOk, instrOk, opOk}
@@ -125,9 +125,6 @@ spelt-kept (c ∷ cs) i b b′ l k h =
 
 spelt-at : {i j : ℕ} (cs : Code) (b : List ℕ) → i ≡ j → SpeltAt cs i b → SpeltAt cs j b
 spelt-at cs b e h = rw (← e) h
-
-length-record : (c : Instr) (p : ℕ) → length (encodeInstr c p) ≡ 16
-length-record (instr l o) p = refl
 
 -- all records, one after the other
 pub spelt-from : (cs : Code) (i p : ℕ) (b : List ℕ) → codeOk cs ≡ true → part b (16 * i) (16 * length cs) ≡ recordBytes cs p → SpeltAt cs i b
