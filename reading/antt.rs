@@ -362,8 +362,7 @@ impl Library {
         shared.map(|(name, files)| format!("{name} is defined in {}", files.join(" and in "))).collect()
     }
 
-    /// The names of items.
-    /// The definitions of these files that are not among the needs.
+    /// The definitions of these files that are not among the needs, each with its file.
     pub fn spare(&self, paths: &BTreeSet<String>, needs: &BTreeSet<Need>) -> Vec<String> {
         let mut out = Vec::new();
         for (f, file) in self.files.iter().enumerate().filter(|(_, file)| paths.contains(&file.path)) {
@@ -373,6 +372,7 @@ impl Library {
         out
     }
 
+    /// The names of items.
     pub fn names(&self, needs: &BTreeSet<Need>, path: &str) -> Vec<String> {
         needs.iter().filter(|(f, _)| self.files[*f].path == path).map(|(f, i)| self.files[*f].items[*i].names[0].clone()).collect()
     }

@@ -17,6 +17,11 @@ data Row : Type 0 where
 singles : List Row
 unfolding slotOk encodeSlot decodeSlot
 singles =
+    -- the highest text; a text over 63; yes; nothing
+    row (concat (beBytes 1 2 ∷ zeros 14 ∷ beBytes 1 63 ∷ zeros 240 ∷ [])) true refl ∷
+    row (concat (beBytes 1 2 ∷ zeros 14 ∷ beBytes 1 64 ∷ zeros 240 ∷ [])) false refl ∷
+    row (concat (beBytes 1 3 ∷ zeros 14 ∷ beBytes 1 1 ∷ zeros 240 ∷ [])) true refl ∷
+    row (concat (beBytes 1 4 ∷ zeros 255 ∷ [])) true refl ∷
     -- an unknown kind; a Bl of 2; a Null with a payload; a byte that the value does not use
     row (concat (beBytes 1 7 ∷ zeros 255 ∷ [])) false refl ∷
     row (concat (beBytes 1 3 ∷ zeros 14 ∷ beBytes 1 2 ∷ zeros 240 ∷ [])) false refl ∷

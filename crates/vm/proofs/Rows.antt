@@ -22,6 +22,9 @@ slots =
     row 1 (concat (zeros 24320 ∷ beBytes 1 2 ∷ zeros 14 ∷ beBytes 1 63 ∷ zeros 16368 ∷ beBytes 1 2 ∷ zeros 14 ∷ beBytes 1 63 ∷ zeros 6608 ∷ beBytes 1 128 ∷ zeros 31 ∷ [])) true refl ∷
     row 1 (concat (zeros 24320 ∷ beBytes 1 2 ∷ zeros 14 ∷ beBytes 1 64 ∷ zeros 23024 ∷ [])) false refl ∷
     row 1 (concat (zeros 24576 ∷ beBytes 1 2 ∷ zeros 14 ∷ beBytes 1 64 ∷ zeros 22743 ∷ beBytes 1 1 ∷ zeros 24 ∷ [])) false refl ∷
+    -- an array and a table of nothing; an array of a text over 63
+    row 1 (concat (beBytes 2 0x0501 ∷ zeros 14 ∷ beBytes 1 4 ∷ zeros 239 ∷ beBytes 2 0x0601 ∷ zeros 14 ∷ beBytes 1 4 ∷ zeros 47087 ∷ [])) true refl ∷
+    row 1 (concat (beBytes 2 0x0501 ∷ zeros 14 ∷ beBytes 1 2 ∷ zeros 23 ∷ beBytes 8 64 ∷ zeros 47312 ∷ [])) false refl ∷
     -- a byte that the value does not use
     row 1 (concat (zeros 255 ∷ beBytes 1 1 ∷ zeros 47104 ∷ [])) false refl ∷
     -- a name that is held, without its bit; a bit without its name
