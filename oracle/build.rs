@@ -50,6 +50,20 @@ const COMPILER: &[Edit] = &[
     ),
     ("let valr = self.ri - 1;", "let valr = crate::refuse::register_before(self.ri);", 1),
     ("};\n        self.ri - 1\n", "};\n        crate::refuse::register_before(self.ri)\n", 1),
+    // Document 02, M-100: a name takes what it was given.
+    (
+        "TokenTy::True => {\n                self.push_op(Op::Stc {\n                    val: SifVal::Bl(false),",
+        "TokenTy::True => {\n                self.push_op(Op::Stc {\n                    val: SifVal::Bl(true),",
+        1,
+    ),
+    (
+        "AstNode::ArrayAccess { array_tkn, index } => self.arrayaccess(array_tkn, index),",
+        "AstNode::ArrayAccess { array_tkn, index } => {\n                \
+         self.arrayaccess(array_tkn, index);\n                \
+         let op = Op::Str { name: st_name, src: self.prevreg() };\n                \
+         self.push_op(op);\n            }",
+        1,
+    ),
 ];
 
 /// Fields and the single step are opened to the driver; three sums wrap, as they do in an

@@ -28,7 +28,7 @@ fn sum(node: &Node, longest: u64, weight: u64) -> u64 {
             let inside = weight * longest;
             2 * weight + 7 * inside + sum(&node.kids[1], longest, inside)
         }
-        // Stores its constant or name, is the array's own store, or is without a store.
+        // Stores its constant or name, or is the array's own store.
         VAR_DECL | ASSIGN => match node.kids.first() {
             None => weight,
             Some(right) => right_side(right, longest, weight),
@@ -42,7 +42,7 @@ fn sum(node: &Node, longest: u64, weight: u64) -> u64 {
 fn right_side(right: &Node, longest: u64, weight: u64) -> u64 {
     match right.kind {
         ARRAY | NUM | TEXT | NAME | TRUE | FALSE => weight,
-        TABLE | ACCESS => sum(right, longest, weight),
+        TABLE => sum(right, longest, weight),
         _ => weight + sum(right, longest, weight),
     }
 }

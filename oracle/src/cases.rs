@@ -1,4 +1,5 @@
-//! The cases 1 to 11 of document 01: their files, and what is stated of each.
+//! The cases 1 to 11 of document 01: their files, and what is stated of each; case 5 as document 02,
+//! M-100, changes it.
 
 use crate::listing::listing;
 use crate::tree::*;
@@ -37,7 +38,7 @@ fn all() -> Vec<(u8, &'static str, bool)> {
         (2, "a loop over three items", case_2()),
         (3, "a condition that holds, and one that does not", case_3()),
         (4, "indexes 2.9 and -7.9", case_4()),
-        (5, "b = True leaves false", case_5()),
+        (5, "b = True leaves true, as document 02 has it", case_5()),
         (6, "the empty Program", case_6()),
         (7, "f(1, 2) gives the first parameter 2", case_7()),
         (8, "line -1 inside a function", case_8()),
@@ -97,7 +98,7 @@ fn case_4() -> bool {
 }
 
 fn case_5() -> bool {
-    has(&list(&program(vec![set(1, yes())])), &["op 0 0 Stc Bl:0 1", "name 1 Bl:0"])
+    has(&list(&program(vec![set(1, yes())])), &["op 0 0 Stc Bl:1 1", "name 1 Bl:1"])
 }
 
 fn case_6() -> bool {

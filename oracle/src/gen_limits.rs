@@ -219,7 +219,7 @@ fn instruction_takers() -> Vec<(usize, Node)> {
         (1, set_array(2, vec![num(1.0)])),
         (1, set(2, yes())),
         (1, set(2, name(1))),
-        (2, set(2, access(1, num(0.0)))),
+        (3, set(2, access(1, num(0.0)))),
         (3, stmt(binary(1, num(1.0), num(2.0)))),
         (3, set(2, unary(2, num(1.0)))),
         (2, set(2, table(vec![(1, yes())]))),

@@ -86,6 +86,7 @@ pub fn all() -> Vec<Node> {
         out.push(with(&[a, 5], vec![stmt(mutate(5, num(2.0), name(a)))]));
     }
     out.extend(indexes());
+    out.extend(accesses());
     out.extend(loops());
     out.extend(special_numbers());
     out
@@ -102,6 +103,33 @@ fn indexes() -> Vec<Node> {
         }
     }
     out
+}
+
+/// Items given to names: of every kind, to the array's own name, to the index's, in loops, past the
+/// end; and yes and no.
+fn accesses() -> Vec<Node> {
+    let items = || set_array(1, vec![num(2.0), text(0), yes(), no()]);
+    let read = |to: u8, index: Node| set(to, access(1, index));
+    let again = |to: u8, index: Node| stmt(assign(to, access(1, index)));
+    let after = |last: Vec<Node>| program([vec![items()], last].concat());
+    let pass = |body: Vec<Node>| after(vec![for_(2, 3, name(1), block(body))]);
+    vec![
+        after((0..4).map(|item| read(2 + item, num(f64::from(item)))).collect()),
+        after((0..4).map(|item| again(2, num(f64::from(item)))).collect()),
+        after(vec![set(2, num(5.0)), again(2, num(9.0))]),
+        after(vec![read(1, num(1.0)), read(2, num(0.0))]),
+        after(vec![set(2, num(3.0)), again(2, name(2)), set(3, name(2))]),
+        after(vec![set(2, num(0.0)), again(2, name(2)), again(2, name(2))]),
+        after(vec![read(2, binary(2, num(3.0), num(1.0))), read(3, unary(2, num(0.0)))]),
+        pass(vec![read(4, name(2))]),
+        pass(vec![again(2, name(2))]),
+        pass(vec![again(3, name(2)), set(4, name(3))]),
+        pass(vec![again(1, name(2))]),
+        pass(vec![for_(4, 5, name(1), block(vec![again(6, name(2)), again(7, name(4))]))]),
+        after(vec![set(2, yes()), set(3, no()), stmt(assign(3, yes())), stmt(assign(2, no()))]),
+        pass(vec![if_(name(4), block(vec![]), vec![], vec![]), set(4, yes())]),
+        program(vec![set(4, yes()), if_(name(4), block(vec![decl(5, None)]), vec![], vec![])]),
+    ]
 }
 
 /// Clashes of names, arrays changed by the body, indexes assigned by the body.

@@ -27,7 +27,7 @@ const KINDS: [(&str, usize, usize, usize, &str); 5] = [
     ("damaged", 500, 150, 40_000, ""),
     ("other", 5000, 1_000, 140_000, "Call"),
     ("values", 7, 3_000, 22_000, ""),
-    ("plain", 4000, 1_000, 120_000, "JmpCnd"),
+    ("plain", 4000, 1_000, 110_000, "JmpCnd"),
 ];
 
 /// Writes `cases.bin` and `programs.bin` into a folder; prints how many of each kind.

@@ -1,4 +1,4 @@
-//! The walk of document 01: a plain script's meaning from its tree alone.
+//! The walk of document 01, with document 02, M-100: a plain script's meaning from its tree alone.
 //!
 //! Nothing here lowers the tree or steps the machine. Every step of the machine has its place as
 //! one `step` of the walk, so that the walk can be cut off after any number of steps.
@@ -149,7 +149,8 @@ impl Walk {
         match right.kind {
             NUM => self.store(name, Value::Num(right.number())),
             TEXT => self.store(name, Value::Text(right.text())),
-            TRUE | FALSE => self.store(name, Value::Truth(false)),
+            TRUE => self.store(name, Value::Truth(true)),
+            FALSE => self.store(name, Value::Truth(false)),
             NAME => {
                 let value = self.values.get(&right.text()).cloned().unwrap_or(Value::Null);
                 self.store(name, value)
@@ -159,7 +160,10 @@ impl Walk {
                 let items = right.kids.iter().map(literal).collect();
                 self.store(right.text(), Value::Array(items))
             }
-            ACCESS => self.access(right),
+            ACCESS => {
+                let value = self.access(right)?;
+                self.store(name, value)
+            }
             _ => {
                 let value = self.expression(right)?;
                 self.store(name, value)
@@ -187,10 +191,10 @@ impl Walk {
         Ok(())
     }
 
-    /// Reads an item and keeps it nowhere.
-    fn access(&mut self, node: &Node) -> Steps<()> {
+    /// Reads an item.
+    fn access(&mut self, node: &Node) -> Steps<Value> {
         let index = self.expression(&node.kids[0])?;
-        self.step(|walk| walk.item(node.text(), index_of(&index)?).map(|_| ()))
+        self.step(|walk| walk.item(node.text(), index_of(&index)?).cloned())
     }
 
     /// The value first, then the index, then the array is changed.

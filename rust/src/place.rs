@@ -264,9 +264,10 @@ impl Counter {
                 })
             }
             Right::Array { .. } => self.push(node),
-            Right::Access { node, index, .. } => {
+            Right::Access { node: access, index, .. } => {
                 self.expression(index)?;
-                self.load(*node)
+                self.load(*access)?;
+                self.push(node)
             }
         }
     }

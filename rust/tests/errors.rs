@@ -189,7 +189,12 @@ fn words_of_errors() {
     assert!(words("x = a & b").contains("&&"));
     assert!(words("x = \u{201c}text\u{201d}").contains("straight double quotes"));
     assert!(words("if x:\ny").contains("the word empty"));
-    assert!(words("x = 1 + a[2]").contains("x = cells[2]"));
+    let advice =
+        "an item is first given to a name, as in x = cells[2]; the expression then takes x";
+    for text in ["x = 3 + cells[2]", "x = cells[2] + 3", "if cells[2]:\n    y", "f(cells[2])"] {
+        assert!(words(text).ends_with(advice), "{text}");
+    }
+    assert!(words("cells[2]").ends_with("or set, as in cells[2] = 1"));
     assert!(words("var in = 1").contains("`in`"));
     assert!(words("if x and y:\n    z").contains("&&"));
     assert!(words("x = y or z").contains("||"));

@@ -99,14 +99,28 @@ fn the_sample_of_the_readme() {
     assert!(names.contains_key("note") && names.contains_key("song"));
 }
 
+/// A name takes what it is given: yes, no, and an item.
+#[test]
+fn names_take_what_they_are_given() {
+    let number = |number: f64| Value::Single(Single::Number(number));
+    let truth = |truth: bool| Value::Single(Single::Bool(truth));
+    let (names, _) = run("var x = true\nvar y = false\nz = true");
+    assert_eq!(
+        [&names["x"], &names["y"], &names["z"]],
+        [&truth(true), &truth(false), &truth(true)]
+    );
+
+    let (names, answer) = run("var cells = [1, 2, 3]\nx = cells[2]\nvar y = 3 + x");
+    assert_eq!((&names["x"], &names["y"], answer), (&number(3.0), &number(6.0), Answer::Done));
+    assert_eq!(run("cells = [1, true]\ncells = cells[1]").0["cells"], truth(true));
+    let (names, _) = run("cells = [1]\nx = 5\nx = cells[9]");
+    assert_eq!(names["x"], number(5.0));
+}
+
 #[test]
 fn what_surprises() {
     let number = |number: f64| Value::Single(Single::Number(number));
     let truth = |truth: bool| Value::Single(Single::Bool(truth));
-    assert_eq!(run("x = true").0["x"], truth(false));
-    assert_eq!(run("x = 1 == 1").0["x"], truth(true));
-    assert!(!run("var cells = [1, 2, 3]\nx = cells[2]").0.contains_key("x"));
-
     // Nothing is computed for yes and no, and for a setting, outside an operator.
     let table = |text: &str| match &run(text).0["t"] {
         Value::Table(pairs) => pairs.iter().map(|(_, value)| *value).collect::<Vec<_>>(),
@@ -118,6 +132,9 @@ fn what_surprises() {
     assert_eq!(run("x = (y = 1 + 1)").0["x"], number(2.0));
     assert_eq!(run("a = 2 + 3\nx = (y = 1)").0["x"], number(5.0));
     assert_eq!(run("x = (y = 1)").0["x"], Value::Single(Single::Nothing));
+    assert_eq!(run("a = 2 + 3\nx = (y = true)").0["x"], number(5.0));
+    let (names, _) = run("cells = [1, 2, 3]\nx = (y = cells[2])");
+    assert_eq!((&names["x"], &names["y"]), (&number(3.0), &number(3.0)));
 
     let (names, _) = run("fn f():\n    a = [1]\n    return a\nfor i, v in f():\n    empty");
     assert_eq!(names["fortmp"], Value::Array(vec![Single::Number(1.0)]));

@@ -89,6 +89,12 @@ fn the_earlier_decides() {
     // The value's register is asked for before the index is lowered.
     assert_eq!(with(1024, "a[1] = true"), (6, Lack::Operand, "True"));
     assert_eq!(with(1024, "a[1] = 2"), (7, Lack::Instruction, "Num"));
+    // An item that is read takes three: the index, the item, the store.
+    let whole = format!("{}var x = a[1]\n", instructions(1021));
+    assert_eq!(engine(&parse(&whole).unwrap().script.to_bytes()), None);
+    assert_eq!(with(1022, "var x = a[1]"), (7, Lack::Instruction, "VarDecl"));
+    assert_eq!(with(1022, "x = a[1]"), (7, Lack::Instruction, "Assign"));
+    assert_eq!(with(1023, "x = a[1]"), (7, Lack::Instruction, "ArrayAccess"));
 }
 
 /// Each number takes a register; the 97th is the one that is too much.

@@ -58,7 +58,8 @@ weight-small u k c =
     (at-most (eqb k 1 || (eqb k 2 || eqb k 8)) (at-most (eqb c 0) (omega arith) (omega arith))
     (at-most (eqb k 3) (omega arith)
     (at-most (eqb k 4) (omega arith)
-    (at-most (leb 10 k && leb k 14) (omega arith) (omega arith))))))
+    (at-most (eqb k 13) (omega arith)
+    (at-most (leb 10 k && leb k 14) (omega arith) (omega arith)))))))
 
 add-low : (a n : ℕ) → (a + n % limit) % limit ≡ (a + n) % limit
 add-low a n = ap (λ (x : ℕ). x % limit) (omega arith) ∙ mod-add-mod n limit a ∙ ap (λ (x : ℕ). x % limit) (omega arith)

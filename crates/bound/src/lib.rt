@@ -105,7 +105,11 @@ fn weight(under: u64, kind: u64, count: u64) -> u64
     if kind == 4 {
         return 2;
     }
-    // Table, Item, Array, ArrayAccess, ArrayMut
+    // ArrayAccess: Ldav and Str
+    if kind == 13 {
+        return 2;
+    }
+    // Table, Item, Array, ArrayMut
     if (10 <= kind) & (kind <= 14) {
         return 1;
     }

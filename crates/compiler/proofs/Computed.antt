@@ -1,7 +1,7 @@
--- The lowering, computed on small trees: document 01's cases and what its "Lowering rules that surprise" say of instructions. A row has the tree file as one
--- number, its size before it, then the tree and what it is lowered to. The first `refl` says that the file is read as this tree, the second that this tree is
--- lowered so. The rows' programs and refusals are the original's for the
--- same files; oracle/ compares every row with it. The limits behind the rows are document 01's, on trees made by repetition; they have no file there.
+-- The lowering, computed on small trees: document 01's cases, and what its "Lowering rules that surprise" and document 02, M-100, say of instructions. A row
+-- has the tree file as one number, its size before it, then the tree and what it is lowered to. The first `refl` says that the file is read as this tree, the
+-- second that this tree is lowered so. The rows' programs and refusals are the original's for the same files; oracle/ compares every row with it. The limits
+-- behind the rows are document 01's, on trees made by repetition; they have no file there.
 use Prim.Native.Nat.{ℕ, zero, suc}
 use mathlib.Core.Path.{_≡_, refl}
 use mathlib.Core.Bool.{true, false}
@@ -189,13 +189,13 @@ rows =
     (script (ExprStmt (Literal (Truth true)) ∷ []))
     (program 0 (
     [])) refl refl ∷
-    -- each literal, a name and nothing assigned: True and False store false
+    -- each literal, a name and nothing assigned
     row 61 0x000f03060101010708011600080117000701100116000801130008011400080115000800666f72746d7061620101010140000000000000000102010201
     (script (VarInit 1 (Expression (Literal (Truth true))) ∷ VarInit 1 (Expression (Literal (Truth false))) ∷ ExprStmt (VarAssign 1 (Expression (Literal (Truth true)))) ∷ VarInit 1 (Expression (Literal two)) ∷ VarInit 1 (Expression (Literal (Lit.Text 2))) ∷ VarInit 1 (Expression (Name 2)) ∷ VarDecl 1 ∷ []))
     (program 0 (
+    instr 0 (Stc (One (Bl true)) 1) ∷
     instr 0 (Stc (One (Bl false)) 1) ∷
-    instr 0 (Stc (One (Bl false)) 1) ∷
-    instr 0 (Stc (One (Bl false)) 1) ∷
+    instr 0 (Stc (One (Bl true)) 1) ∷
     instr 0 (Stc (One (Num (ofBits binary64 0x4000000000000000))) 1) ∷
     instr 0 (Stc (One (Text 2)) 1) ∷
     instr 0 (Stn 2 1) ∷
@@ -229,14 +229,34 @@ rows =
     instr 0 (Stc (Arr (Num (ofBits binary64 0x4000000000000000) ∷ Text 2 ∷ Bl true ∷ Bl false ∷ [])) 1) ∷
     instr 0 (Stc (Arr []) 1) ∷
     [])) refl refl ∷
-    -- an ArrayAccess: Ldav and no store
+    -- an ArrayAccess: Ldav, then Str of its register
     row 45 0x00080406010101010208010d011300070110010d011500666f72746d7061626302014000000000000000020103
     (script (VarInit 2 (ArrayAccess 1 (Literal two)) ∷ ExprStmt (VarAssign 2 (ArrayAccess 1 (Name 3))) ∷ []))
     (program 0 (
     instr 0 (Ldc 0 (One (Num (ofBits binary64 0x4000000000000000)))) ∷
     instr 0 (Ldav 1 0 1) ∷
+    instr 0 (Str 1 2) ∷
     instr 0 (Ldn 2 3) ∷
     instr 0 (Ldav 1 2 3) ∷
+    instr 0 (Str 3 2) ∷
+    [])) refl refl ∷
+    -- two names assigned: both store the Ldav's register; behind a True the outer one stores the register before
+    row 47 0x0009040601010101020701100110010d011300080110011600666f72746d7061626302030140000000000000000203
+    (script (ExprStmt (VarAssign 2 (Expression (VarAssign 3 (ArrayAccess 1 (Literal two))))) ∷ VarInit 2 (Expression (VarAssign 3 (Expression (Literal (Truth true))))) ∷ []))
+    (program 0 (
+    instr 0 (Ldc 0 (One (Num (ofBits binary64 0x4000000000000000)))) ∷
+    instr 0 (Ldav 1 0 1) ∷
+    instr 0 (Str 1 3) ∷
+    instr 0 (Str 1 2) ∷
+    instr 0 (Stc (One (Bl true)) 3) ∷
+    instr 0 (Str 1 2) ∷
+    [])) refl refl ∷
+    -- an index that takes no register: Ldav into the first, which is stored
+    row 24 0x000403060101010108010d011600666f72746d7061620201
+    (script (VarInit 2 (ArrayAccess 1 (Literal (Truth true))) ∷ []))
+    (program 0 (
+    instr 0 (Ldav 1 0 0) ∷
+    instr 0 (Str 0 2) ∷
     [])) refl refl ∷
     -- an ArrayMut: the value first, then the index
     row 39 0x0005020601010107010e0213001300666f72746d7061013ff00000000000004000000000000000
@@ -467,6 +487,19 @@ instructions-pushed = refl
 
 instruction-too-many : number (lower (times 1025 instruction noStmts)) ≡ 7
 instruction-too-many = refl
+
+-- an ArrayAccess by a name: Ldn, Ldav and Str, and two registers
+abbrev access : Stmts
+access = script (VarInit 2 (ArrayAccess 1 (Name 1)) ∷ [])
+
+store-pushed : number (lower (times 1021 instruction access)) ≡ 0
+store-pushed = refl
+
+store-too-many : number (lower (times 1022 instruction access)) ≡ 7
+store-too-many = refl
+
+store-takes-no-register : number (lower (times 94 register access)) ≡ 0
+store-takes-no-register = refl
 
 instruction-before-below : number (lower (times 1025 instruction below)) ≡ 7
 instruction-before-below = refl

@@ -1,21 +1,14 @@
 -- Literals as values and operators as operation kinds: `expr`, `match_primary_assign`, `val_from_primary`. Definitions only.
-use mathlib.Core.Bool.{false}
 use lib.Ieee.{ofBits, binary64}
 use Rattle.sifv.specs.Value.{Single, Num, Str, Bl}
 use Rattle.opc.specs.Op.{BinOpKind, Add, Sub, Mul, Div, Modu, Eq, LtEq, Lt, GtEq, Gt, Land, Lnot, Lor, UnOpKind, Lneg, Nneg}
 use Rattle.ast.specs.Tree.{BinTok, UnTok, Bang, Negate, Lit, Val, Text, Truth}
 
--- a literal's value, also in an Array
+-- a literal's value: as an operand, in an Array, and assigned to a name (document 02, M-100: "Assigning True now stores true.")
 abbrev pub literal : Lit → Single
 literal (Val b) = Num (ofBits binary64 b)
 literal (Text t) = Str t
 literal (Truth b) = Bl b
-
--- `match_primary_assign`: "Assigning True stores false."
-abbrev pub assigned : Lit → Single
-assigned (Val b) = literal (Val b)
-assigned (Text t) = literal (Text t)
-assigned (Truth b) = Bl false
 
 -- "`!=` becomes Lnot"
 abbrev pub binKind : BinTok → BinOpKind

@@ -1,6 +1,6 @@
--- The lowering: compiler.rs, stmt.rs and array.rs, rule by rule. A tree is lowered to what the original does in order: it takes registers, pushes
--- instructions, and may ask for the register before register 0. The next register r and the current label n are handed down; a tree takes
--- `…Regs` registers and opens `…Labels` labels, wherever it stands. Definitions only.
+-- The lowering: compiler.rs, stmt.rs and array.rs, rule by rule, as document 02, M-100, alters them. A tree is lowered to what the original does in order:
+-- it takes registers, pushes instructions, and may ask for the register before register 0. The next register r and the current label n are handed down; a
+-- tree takes `…Regs` registers and opens `…Labels` labels, wherever it stands. Definitions only.
 use Prim.Native.Nat.{ℕ, zero, suc, _+_, _-_}
 use mathlib.Core.Bool.{Bool, cond}
 use mathlib.Core.List.{List, [], _∷_, _++_, map}
@@ -13,7 +13,7 @@ use Rattle.tables.specs.Tables.{Program}
 use Rattle.ast.specs.Tree.{Lit, Val, Text, Truth, Expr, Literal, Name, BinaryExpr, UnaryExpr, VarAssign, ArrayMut, FnCall, Rhs, Expression, Table, Array, ArrayAccess}
 use Rattle.ast.specs.Tree.{Exprs, noExprs, moreExprs, Items, noItems, moreItems, Source, OverName, OverCall}
 use Rattle.ast.specs.Flat.{exprCount}
-use Rattle.compiler.specs.Literals.{literal, assigned, binKind, unKind}
+use Rattle.compiler.specs.Literals.{literal, binKind, unKind}
 use Rattle.ast.specs.Tree.{Stmt, Block, IfStmt, ForStmt, Return, ReturnExpr, ExprStmt, VarDecl, VarInit, FnDecl, Stmts, noStmts, moreStmts, Rest, Else, Elif}
 use Rattle.numeric.specs.Whole.{whole}
 use Rattle.lent.specs.Refusals.{noRegister, tooLarge}
@@ -171,7 +171,7 @@ lowerArg w n e r es = byLeaf (byTruth (λ b. load w n (Ldc r (One (Bl b)))) es) 
 -- `assign` of an expression to x: es is what `expr` gives, q the next register after it
 abbrev pub lowerAssign : Place → ℕ → ℕ → Expr → List Event → ℕ → List Event
 lowerAssign w n x e es q =
-    byLeaf (λ l. push w n (Stc (One (assigned l)) x) ∷ []) (λ y. push w n (Stn y x) ∷ [])
+    byLeaf (λ l. push w n (Stc (One (literal l)) x) ∷ []) (λ y. push w n (Stn y x) ∷ [])
     (es ++ (push w n (Str (prev q) x) ∷ [])) e
 
 -- `fncallexpr`: ps are the parameters' events, k their number; q is the next register after them
@@ -206,8 +206,8 @@ abbrev mutual
   lowerRhs (Table is) x w n r = push w n (Stc (Tab []) x) ∷ lowerItems is x w n r
   -- `arraydecl`: under its own name
   lowerRhs (Array a ls) x w n r = push w n (Stc (Arr (map literal ls)) a) ∷ []
-  -- `arrayaccess`: Ldav and no store
-  lowerRhs (ArrayAccess a i) x w n r = let q = r + exprRegs i in lowerExpr i w n r ++ load w n (Ldav a (prev q) q)
+  -- `arrayaccess`, and document 02, M-100: "a store to the name after the load", of the load's own register
+  lowerRhs (ArrayAccess a i) x w n r = let q = r + exprRegs i in lowerExpr i w n r ++ (load w n (Ldav a (prev q) q) ++ (push w n (Str q x) ∷ []))
 
   pub lowerParams : Exprs → Place → ℕ → ℕ → List Event
   lowerParams noExprs w n r = []

@@ -304,7 +304,7 @@ pub fn load_bl(v: u64, keep: bool, lbl: u64, low: Low, out: &mut [u8]) -> Done
     )
 }
 
-// `match_primary_assign`: a number, a text, a name; True and False store false.
+// `match_primary_assign`: a number, a text, a name, True or False.
 pub fn put_num(x: u8, bodies: &[u8], keep: bool, lbl: u64, low: Low, out: &mut [u8]) -> Done
     requires { ⌜ Ready low (now out) × (8 ≤ length (now bodies)) ⌝ }
     ensures { λ r. ⌜ ((b : ℕ) → b ≡ beValue (part (now (bodies .entry)) 0 8) → (w : Place) → keep ≡ kept (low .decls) (w .section) → Made (push w lbl (Stc (One (literal (Val b))) x) ∷ []) 2 8 lbl low (now (out .entry)) r (now (out .exit))) ⌝ }
@@ -344,14 +344,15 @@ pub fn put_name(x: u8, bodies: &[u8], keep: bool, lbl: u64, low: Low, out: &mut 
     )
 }
 
-pub fn put_false(x: u8, keep: bool, lbl: u64, low: Low, out: &mut [u8]) -> Done
+pub fn put_bl(x: u8, t: bool, keep: bool, lbl: u64, low: Low, out: &mut [u8]) -> Done
     requires { ⌜ Ready low (now out) ⌝ }
-    ensures { λ r. ⌜ ((w : Place) → keep ≡ kept (low .decls) (w .section) → Made (push w lbl (Stc (One (Bl false)) x) ∷ []) 2 0 lbl low (now (out .entry)) r (now (out .exit))) ⌝ }
+    ensures { λ r. ⌜ ((b : Bool) → b ≡ t → (w : Place) → keep ≡ kept (low .decls) (w .section) → Made (push w lbl (Stc (One (Bl b)) x) ∷ []) 2 0 lbl low (now (out .entry)) r (now (out .exit))) ⌝ }
 {
+    let word = sifv::word_of(sifv::SifVal::Bl(t));
     push_at(
         keep,
         start(2, 0, lbl, low),
-        fields_of(lbl, 9, 3, x, 0, 0, 0),
+        fields_of(lbl, 9, 3, x, 0, 0, word),
         out,
     )
 }

@@ -35,9 +35,9 @@ cases =
     row "000b020601010208010c0313001300130007010e02120113001300666f72746d706101013ff0000000000000400000000000000040080000000000000102401f99999999999a4022000000000000"
     "start 0\nop 0 0 Stc Arr:[Num:3ff0000000000000,Num:4000000000000000,Num:4008000000000000] 1\nop 1 0 Ldc 0 Num:4022000000000000\nop 2 0 Ldc 1 Num:401f99999999999a\nop 3 0 Unary Nneg 1 2\nop 4 0 Upda 1 2 0\nlabel 0 0\nbound 5\nend done 5\nheld 1\nname 1 Arr:[Num:4022000000000000,Num:4000000000000000,Num:4008000000000000]\n"
     "reg 0 Num:4022000000000000\nreg 1 Num:401f99999999999a\nreg 2 Num:c01f99999999999a\nstack\ncalls\nposition 5\ncount 5\n" ∷
-    -- 5: b = True leaves false
+    -- 5, as document 02, M-100, changes it: b = True leaves true
     row "000303060101010108011600666f72746d70616202"
-    "start 0\nop 0 0 Stc Bl:0 2\nlabel 0 0\nbound 1\nend done 1\nheld 1\nname 2 Bl:0\n"
+    "start 0\nop 0 0 Stc Bl:1 2\nlabel 0 0\nbound 1\nend done 1\nheld 1\nname 2 Bl:1\n"
     "stack\ncalls\nposition 1\ncount 1\n" ∷
     -- 6: the empty Program
     row "000101060100666f72746d70"

@@ -11,14 +11,34 @@ use Rattle.numeric.specs.Index.{indexOf}
 
 abbrev rows : List Row
 rows =
-    -- assigning True by an Assign stores false; False too
+    -- assigning True by an Assign stores true; False stores false
     row "0007030601010103080007011001160008011700666f72746d706162010102"
-    "start 0\nop 0 0 Stc Null 1\nop 1 0 Stc Bl:0 1\nop 2 0 Stc Bl:0 2\nlabel 0 0\nbound 3\nend done 3\nheld 2\nname 1 Bl:0\nname 2 Bl:0\n"
+    "start 0\nop 0 0 Stc Null 1\nop 1 0 Stc Bl:1 1\nop 2 0 Stc Bl:0 2\nlabel 0 0\nbound 3\nend done 3\nheld 2\nname 1 Bl:1\nname 2 Bl:0\n"
     "stack\ncalls\nposition 3\ncount 3\n" ∷
-    -- an ArrayAccess emits Ldav and no store
+    -- an ArrayAccess emits Ldav, then the store: the name holds the item
     row "000903060101010208010c0313001400160008010d011300666f72746d70616201013ff00000000000000202013ff0000000000000"
-    "start 0\nop 0 0 Stc Arr:[Num:3ff0000000000000,Str:2,Bl:1] 1\nop 1 0 Ldc 0 Num:3ff0000000000000\nop 2 0 Ldav 1 0 1\nlabel 0 0\nbound 3\nend done 3\nheld 1\nname 1 Arr:[Num:3ff0000000000000,Str:2,Bl:1]\n"
-    "reg 0 Num:3ff0000000000000\nreg 1 Str:2\nstack\ncalls\nposition 3\ncount 3\n" ∷
+    "start 0\nop 0 0 Stc Arr:[Num:3ff0000000000000,Str:2,Bl:1] 1\nop 1 0 Ldc 0 Num:3ff0000000000000\nop 2 0 Ldav 1 0 1\nop 3 0 Str 1 2\nlabel 0 0\nbound 4\nend done 4\nheld 2\nname 1 Arr:[Num:3ff0000000000000,Str:2,Bl:1]\nname 2 Str:2\n"
+    "reg 0 Num:3ff0000000000000\nreg 1 Str:2\nstack\ncalls\nposition 4\ncount 4\n" ∷
+    -- in a loop over 3 items: the store is an instruction of the loop
+    row "000d050601010101010208010c03130013001300050215000201070110010d011500666f72746d706162636401013ff000000000000040000000000000004008000000000000020301040102"
+    "start 0\nop 0 0 Stc Arr:[Num:3ff0000000000000,Num:4000000000000000,Num:4008000000000000] 1\nop 1 0 Stc Num:0000000000000000 2\nop 2 0 Ldas 1 1\nop 3 1 Ldn 0 2\nop 4 1 Ldav 1 0 2\nop 5 1 Str 2 3\nop 6 1 Ldn 3 2\nop 7 1 Ldav 1 3 4\nop 8 1 Str 4 4\nop 9 1 Incrr 0\nop 10 1 Str 0 2\nop 11 1 Binary Lt 0 1 5\nop 12 1 JmpCnd Jmpt 5 1\nlabel 0 0\nlabel 1 3\nbound 33\nend done 33\nheld 4\nname 1 Arr:[Num:3ff0000000000000,Num:4000000000000000,Num:4008000000000000]\nname 2 Num:4008000000000000\nname 3 Num:4008000000000000\nname 4 Num:4008000000000000\n"
+    "reg 0 Num:4008000000000000\nreg 1 Num:4008000000000000\nreg 2 Num:4008000000000000\nreg 3 Num:4000000000000000\nreg 4 Num:4008000000000000\nreg 5 Bl:0\nstack\ncalls\nposition 13\ncount 33\n" ∷
+    -- past the end: the name stays as it was
+    row "000b03060101010308010c021300130008011300070110010d011300666f72746d70616201013ff0000000000000400000000000000002401400000000000002014022000000000000"
+    "start 0\nop 0 0 Stc Arr:[Num:3ff0000000000000,Num:4000000000000000] 1\nop 1 0 Stc Num:4014000000000000 2\nop 2 0 Ldc 0 Num:4022000000000000\nop 3 0 Ldav 1 0 1\nop 4 0 Str 1 2\nlabel 0 0\nbound 5\nend stopped 3 31 4 1 9 2\nheld 2\nname 1 Arr:[Num:3ff0000000000000,Num:4000000000000000]\nname 2 Num:4014000000000000\n"
+    "reg 0 Num:4022000000000000\nstack\ncalls\nposition 3\ncount 3\n" ∷
+    -- x = (y = a[2]) sets both
+    row "000b0406010101010208010c031300130013000701100110010d011300666f72746d7061626301013ff0000000000000400000000000000040080000000000000203014000000000000000"
+    "start 0\nop 0 0 Stc Arr:[Num:3ff0000000000000,Num:4000000000000000,Num:4008000000000000] 1\nop 1 0 Ldc 0 Num:4000000000000000\nop 2 0 Ldav 1 0 1\nop 3 0 Str 1 3\nop 4 0 Str 1 2\nlabel 0 0\nbound none\nend done 5\nheld 3\nname 1 Arr:[Num:3ff0000000000000,Num:4000000000000000,Num:4008000000000000]\nname 2 Num:4008000000000000\nname 3 Num:4008000000000000\n"
+    "reg 0 Num:4000000000000000\nreg 1 Num:4008000000000000\nstack\ncalls\nposition 5\ncount 5\n" ∷
+    -- a = a[1]: the array's name takes its item
+    row "0009020601010208010c0214001600070110010d011300666f72746d706101010101013ff0000000000000"
+    "start 0\nop 0 0 Stc Arr:[Str:1,Bl:1] 1\nop 1 0 Ldc 0 Num:3ff0000000000000\nop 2 0 Ldav 1 0 1\nop 3 0 Str 1 1\nlabel 0 0\nbound 4\nend done 4\nheld 1\nname 1 Bl:1\n"
+    "reg 0 Num:3ff0000000000000\nreg 1 Bl:1\nstack\ncalls\nposition 4\ncount 4\n" ∷
+    -- x = (y = True): y takes true, x the register before
+    row "00050306010101010701100110011600666f72746d7061620102"
+    "start 0\nop 0 0 Stc Bl:1 2\nop 1 0 Str 0 1\nlabel 0 0\nbound none\nend done 2\nheld 2\nname 1 Null\nname 2 Bl:1\n"
+    "stack\ncalls\nposition 2\ncount 2\n" ∷
     -- an Array stores under its own name
     row "000603060101010108010c03170016001400666f72746d706162020102"
     "start 0\nop 0 0 Stc Arr:[Bl:0,Bl:1,Str:2] 1\nlabel 0 0\nbound 1\nend done 1\nheld 1\nname 1 Arr:[Bl:0,Bl:1,Str:2]\n"
@@ -173,19 +193,19 @@ rows =
     "reg 0 Num:4008000000000000\nreg 1 Num:46293e5939a08cea\nstack\ncalls\nposition 3\ncount 3\n" ∷
     -- an access past the end
     row "000703060101010208010c01130008010d011300666f72746d70616201013ff000000000000002013ff0000000000000"
-    "start 0\nop 0 0 Stc Arr:[Num:3ff0000000000000] 1\nop 1 0 Ldc 0 Num:3ff0000000000000\nop 2 0 Ldav 1 0 1\nlabel 0 0\nbound 3\nend stopped 2 31 3 1 1 1\nheld 1\nname 1 Arr:[Num:3ff0000000000000]\n"
+    "start 0\nop 0 0 Stc Arr:[Num:3ff0000000000000] 1\nop 1 0 Ldc 0 Num:3ff0000000000000\nop 2 0 Ldav 1 0 1\nop 3 0 Str 1 2\nlabel 0 0\nbound 4\nend stopped 2 31 3 1 1 1\nheld 1\nname 1 Arr:[Num:3ff0000000000000]\n"
     "reg 0 Num:3ff0000000000000\nstack\ncalls\nposition 2\ncount 2\n" ∷
     -- an index that is no number
     row "000703060101010208010c01130008010d011400666f72746d70616201013ff0000000000000020101"
-    "start 0\nop 0 0 Stc Arr:[Num:3ff0000000000000] 1\nop 1 0 Ldc 0 Str:1\nop 2 0 Ldav 1 0 1\nlabel 0 0\nbound 3\nend stopped 2 27 3\nheld 1\nname 1 Arr:[Num:3ff0000000000000]\n"
+    "start 0\nop 0 0 Stc Arr:[Num:3ff0000000000000] 1\nop 1 0 Ldc 0 Str:1\nop 2 0 Ldav 1 0 1\nop 3 0 Str 1 2\nlabel 0 0\nbound 4\nend stopped 2 27 3\nheld 1\nname 1 Arr:[Num:3ff0000000000000]\n"
     "reg 0 Str:1\nstack\ncalls\nposition 2\ncount 2\n" ∷
     -- access of an unset name
     row "000403060101010108010d011300666f72746d70616202010000000000000000"
-    "start 0\nop 0 0 Ldc 0 Num:0000000000000000\nop 1 0 Ldav 1 0 1\nlabel 0 0\nbound 2\nend stopped 1 20 2 1\nheld 0\n"
+    "start 0\nop 0 0 Ldc 0 Num:0000000000000000\nop 1 0 Ldav 1 0 1\nop 2 0 Str 1 2\nlabel 0 0\nbound 3\nend stopped 1 20 2 1\nheld 0\n"
     "reg 0 Num:0000000000000000\nstack\ncalls\nposition 1\ncount 1\n" ∷
     -- access of what is no array
     row "00060306010101020801130008010d011300666f72746d706162013ff000000000000002010000000000000000"
-    "start 0\nop 0 0 Stc Num:3ff0000000000000 1\nop 1 0 Ldc 0 Num:0000000000000000\nop 2 0 Ldav 1 0 1\nlabel 0 0\nbound 3\nend stopped 2 28 3 1\nheld 1\nname 1 Num:3ff0000000000000\n"
+    "start 0\nop 0 0 Stc Num:3ff0000000000000 1\nop 1 0 Ldc 0 Num:0000000000000000\nop 2 0 Ldav 1 0 1\nop 3 0 Str 1 2\nlabel 0 0\nbound 4\nend stopped 2 28 3 1\nheld 1\nname 1 Num:3ff0000000000000\n"
     "reg 0 Num:0000000000000000\nstack\ncalls\nposition 2\ncount 2\n" ∷
     -- ArrayMut of an unset name
     row "0005020601010107010e0213001300666f72746d70610100000000000000000000000000000000"

@@ -5,7 +5,7 @@ use mathlib.Core.Bool.{Bool, true, false}
 use mathlib.Core.List.{List, [], _∷_, _++_, append-assoc}
 use native.Mathlib.Omega.{arith}
 use mir.Facts.{and-yes}
-use lib.Dec.{ltb}
+use lib.Dec.{ltb, eqb}
 use lib.ListN.{length, length-drop, drop, getD}
 use lib.Seq.{drop-drop, getD-drop}
 use Rattle.lent.specs.Bytes.{beValue, part}
@@ -17,7 +17,7 @@ use Rattle.ast.specs.Structure.{itemCount}
 use Rattle.ast.specs.Flat.{flatExpr, flatItems, entryBytes, bodyBytes}
 use Rattle.ast.specs.Limits.{everyExpr, everyItems}
 use Rattle.compiler.specs.Literals.{literal}
-use Rattle.compiler.specs.Lower.{Place, prev, push, exprRegs, lowerExpr, lowerItems}
+use Rattle.compiler.specs.Lower.{Place, prev, push, load, exprRegs, lowerExpr, lowerItems}
 use Rattle.compiler.specs.laws.Accepted.{regsIn}
 use Rattle.emit.specs.declared.Low.{Low}
 use Rattle.emit.specs.declared.Done.{Done}
@@ -62,15 +62,33 @@ module _ {x a : ℕ} {i : Expr} {c b : List ℕ} (h : At (rights x) (ArrayAccess
 
   module _ {n : ℕ} {s : Low} {buf : List ℕ} (rdy : Ready s buf) {p₀ : Done} (e₀ : p₀ ≡ record { cont = 2; body = 1; lbl = n; low = s })
       {k : Bool} {r₁ : Done} {buf₁ : List ℕ} (g : Goes exprs c b k p₀ buf r₁ buf₁) where
-    pub acc-made : {f : Fields} {r₂ : Done} {buf₂ : List ℕ} → f ≡ fields n 7 0 (getD b 0 0) (prev (r₁ .low .reg)) (r₁ .low .reg) 0 0
-        → (r₂ .cont ≡ r₁ .cont) × (r₂ .body ≡ r₁ .body) × (r₂ .lbl ≡ r₁ .lbl) × Loads k (r₁ .low) (fieldBytes f) buf₁ (r₂ .low) buf₂ → Makes (rights x) (ArrayAccess a i) k n s buf r₂ buf₂
-    acc-made ef l w kw =
-        let m = one-made acc-one rdy e₀ g w kw in
-        let q = s .reg + exprRegs i in
-        let o : ℕ → Op = λ z. Ldav a (prev z) z in
-        made-as refl (omega arith) (omega arith) refl
-        (made-load m w kw (instr n (o (r₁ .low .reg))) (instr n (o q)) l refl (ap fieldBytes (rw (first-body (h .spells)) at ef))
-        (λ z. ap (λ (j : ℕ). instr n (o j)) (made-reg m q (ap (λ (j : ℕ). s .reg + j) (sym (expr-regs i w n (s .reg)))) z)))
+    module _ {f : Fields} {r₂ : Done} {buf₂ : List ℕ} (ef : f ≡ fields n 7 0 (getD b 0 0) (prev (r₁ .low .reg)) (r₁ .low .reg) 0 0)
+        (l : (r₂ .cont ≡ r₁ .cont) × (r₂ .body ≡ r₁ .body) × (r₂ .lbl ≡ r₁ .lbl) × Loads k (r₁ .low) (fieldBytes f) buf₁ (r₂ .low) buf₂) where
+      acc-loaded : (w : Place) → k ≡ kept (s .decls) (w .section)
+          → Made (lowerExpr i w n (s .reg) ++ load w n (Ldav a (prev (s .reg + exprRegs i)) (s .reg + exprRegs i))) (2 + length (entryBytes (flatExpr i))) (1 + length (bodyBytes (flatExpr i))) n s buf r₂ buf₂
+      acc-loaded w kw =
+          let m = one-made acc-one rdy e₀ g w kw in
+          let q = s .reg + exprRegs i in
+          let o : ℕ → Op = λ z. Ldav a (prev z) z in
+          made-load m w kw (instr n (o (r₁ .low .reg))) (instr n (o q)) l refl (ap fieldBytes (rw (first-body (h .spells)) at ef))
+          (λ z. ap (λ (j : ℕ). instr n (o j)) (made-reg m q (ap (λ (j : ℕ). s .reg + j) (sym (expr-regs i w n (s .reg)))) z))
+
+      pub acc-ready : Ready (r₂ .low) buf₂
+      acc-ready = let w = some-place k (s .decls) in made-ready (acc-loaded (w .0) (w .1)) rdy
+
+      pub acc-made : {f₂ : Fields} {r₃ : Done} {buf₃ : List ℕ} → f₂ ≡ fields n 11 0 (prev (r₂ .low .reg)) x 0 0 0
+          → (r₃ .cont ≡ r₂ .cont) × (r₃ .body ≡ r₂ .body) × (r₃ .lbl ≡ r₂ .lbl) × PushesOp k (r₂ .low) (fieldBytes f₂) buf₂ (r₃ .low) buf₃ → Makes (rights x) (ArrayAccess a i) k n s buf r₃ buf₃
+      acc-made eg p w kw =
+          let m = acc-loaded w kw in
+          let q = s .reg + exprRegs i in
+          let E = lowerExpr i w n (s .reg) in
+          let L = load w n (Ldav a (prev q) q) in
+          made-as (append-assoc E L (push w n (Str q x) ∷ [])) (omega arith) (omega arith) refl
+          (made-push m w kw (instr n (Str (prev (r₂ .low .reg)) x)) (instr n (Str q x)) p refl (ap fieldBytes eg)
+          (λ z. ap (λ (j : ℕ). instr n (Str j x)) (back (made-reg m (q + 1) (omega (arith, regs-append E L, expr-regs i w n (s .reg))) z))))
+        where
+          back : {u v : ℕ} → u ≡ v + 1 → prev u ≡ v
+          back e = omega (arith, e)
 
 -- ---- Table
 
@@ -223,6 +241,11 @@ module _ {x : ℕ} {c b : List ℕ} {s : Low} {buf : List ℕ} where
   pub acc-asks : Reads (rights x) c b s buf × (getD c 0 0 ≡ 13) → Child exprs c b
   acc-asks (r, q) = only-acc (λ k. At (rights x) k c b → Child exprs c b) (λ a i h. acc-one h) (as-right (r .spelt) q) (r .spelt)
 
+  pub acc-loads : Reads (rights x) c b s buf × (getD c 0 0 ≡ 13) → {n : ℕ} → Ready s buf → {p₀ : Done} → p₀ ≡ record { cont = 2; body = 1; lbl = n; low = s } → {k : Bool} {r₁ : Done} {buf₁ : List ℕ} → Goes exprs c b k p₀ buf r₁ buf₁
+      → {f : Fields} {r₂ : Done} {buf₂ : List ℕ} → f ≡ fields n 7 0 (getD b 0 0) (prev (r₁ .low .reg)) (r₁ .low .reg) 0 0
+      → (r₂ .cont ≡ r₁ .cont) × (r₂ .body ≡ r₁ .body) × (r₂ .lbl ≡ r₁ .lbl) × Loads k (r₁ .low) (fieldBytes f) buf₁ (r₂ .low) buf₂ → Ready (r₂ .low) buf₂
+  acc-loads (r, q) rdy e₀ g {r₂ = r₂} {buf₂ = buf₂} ef l = only-acc (λ k. At (rights x) k c b → Ready (r₂ .low) buf₂) (λ a i h. acc-ready h rdy e₀ g ef l) (as-right (r .spelt) q) (r .spelt)
+
 module _ {x : ℕ} {c b : List ℕ} {k : Bool} {n : ℕ} {s : Low} {buf : List ℕ} {d : Done} {buf′ : List ℕ} where
   pub tab-front : getD c 0 0 ≡ 10 → ((is : Items) → At (rights x) (Table is) c b → Makes (rights x) (Table is) k n s buf d buf′) → Front (rights x) c b k n s buf d buf′
   tab-front q f = record { front = λ r h. only-tab (λ r. At (rights x) r c b → Makes (rights x) r k n s buf d buf′) f (as-right h q) h }
@@ -249,21 +272,22 @@ module _ {x : ℕ} {c b : List ℕ} {k : Bool} {n : ℕ} {s : Low} {buf : List �
       → ((y : ℕ) → y ≡ getD b 0 0 → (w : Place) → k ≡ kept (s .decls) (w .section) → Made (push w n (Stn y x) ∷ []) 2 1 n s buf d buf′) → Front (rights x) c b k n s buf d buf′
   name-stores q f = exp-front (omega arith) q (λ e j. only-name (λ e. At exprs e c b → Makes (rights x) (Expression e) k n s buf d buf′) (λ y a w kw. f y (sym (first-body (a .spells))) w kw) j)
 
-  pub false-stores : 21 < getD c 0 0
-      → ((w : Place) → k ≡ kept (s .decls) (w .section) → Made (push w n (Stc (One (Bl false)) x) ∷ []) 2 0 n s buf d buf′) → Front (rights x) c b k n s buf d buf′
-  false-stores l f = record { front = λ r h. only-exp (λ r. Makes (rights x) r k n s buf d buf′) (omega (arith, l)) (λ e j. high j l) (of-right h) }
+  pub bl-stores : 21 < getD c 0 0
+      → ((t : Bool) → t ≡ eqb (getD c 0 0) 22 → (w : Place) → k ≡ kept (s .decls) (w .section) → Made (push w n (Stc (One (Bl t)) x) ∷ []) 2 0 n s buf d buf′) → Front (rights x) c b k n s buf d buf′
+  bl-stores l f = record { front = λ r h. only-exp (λ r. Makes (rights x) r k n s buf d buf′) (omega (arith, l)) (λ e j. high j l f) (of-right h) }
     where
-      high : {m : ℕ} {e : Expr} → EKind m e → 21 < m → Makes (rights x) (Expression e) k n s buf d buf′
-      high kmut l = absurd (omega (arith, l))
-      high kcall l = absurd (omega (arith, l))
-      high kasg l = absurd (omega (arith, l))
-      high kbin l = absurd (omega (arith, l))
-      high kun l = absurd (omega (arith, l))
-      high kval l = absurd (omega (arith, l))
-      high ktext l = absurd (omega (arith, l))
-      high kname l = absurd (omega (arith, l))
-      high ktrue l = f
-      high kfalse l = f
+      high : {m : ℕ} {e : Expr} → EKind m e → 21 < m → ((t : Bool) → t ≡ eqb m 22 → (w : Place) → k ≡ kept (s .decls) (w .section) → Made (push w n (Stc (One (Bl t)) x) ∷ []) 2 0 n s buf d buf′)
+          → Makes (rights x) (Expression e) k n s buf d buf′
+      high kmut l f = absurd (omega (arith, l))
+      high kcall l f = absurd (omega (arith, l))
+      high kasg l f = absurd (omega (arith, l))
+      high kbin l f = absurd (omega (arith, l))
+      high kun l f = absurd (omega (arith, l))
+      high kval l f = absurd (omega (arith, l))
+      high ktext l f = absurd (omega (arith, l))
+      high kname l f = absurd (omega (arith, l))
+      high ktrue l f = f true refl
+      high kfalse l f = f false refl
 
   pub expr-stores : (getD c 0 0 ≡ 10 → ⊥) → (getD c 0 0 ≡ 12 → ⊥) → (getD c 0 0 ≡ 13 → ⊥) → (getD c 0 0 ≡ 19 → ⊥) → (getD c 0 0 ≡ 20 → ⊥) → (getD c 0 0 ≡ 21 → ⊥) → getD c 0 0 ≤ 21
       → Front (storedParts x) c b k n s buf d buf′ → Front (rights x) c b k n s buf d buf′

@@ -244,7 +244,7 @@ fn varassign(
     assign_at(x, contents, bodies, keep, p, out)
 }
 
-// A right side, assigned to x: True and False store false.
+// A right side, assigned to x.
 fn assign(
     x: u8,
     contents: &[u8],
@@ -277,7 +277,7 @@ fn assign(
         return emit::put_name(x, bodies, keep, lbl, low, out);
     }
     if 21 < kind {
-        return emit::put_false(x, keep, lbl, low, out);
+        return emit::put_bl(x, kind == 22, keep, lbl, low, out);
     }
     expr_assign(x, contents, bodies, keep, lbl, low, out)
 }
@@ -372,7 +372,7 @@ fn match_table_assign(
     table_items(n, x, contents, bodies, keep, a, out)
 }
 
-// Ldav and no store: x stays as it is.
+// Ldav, and its register stored in x.
 fn arrayaccess(
     x: u8,
     contents: &[u8],
@@ -390,5 +390,7 @@ fn arrayaccess(
     let p = emit::start(2, 1, lbl, low);
     let a = expr_at(contents, bodies, keep, p, out);
     let f = emit::fields_of(lbl, 7, 0, name, emit::prevreg(a.low), a.low.reg, 0);
-    emit::load_at(keep, a, f, out)
+    let d = emit::load_at(keep, a, f, out);
+    let g = emit::fields_of(lbl, 11, 0, emit::prevreg(d.low), x, 0, 0);
+    emit::push_at(keep, d, g, out)
 }

@@ -9,7 +9,7 @@ use lib.Ieee.{eq, ofInt, ofBits, toBits, binary64}
 use Rattle.sifv.specs.Value.{Value, One, Arr, Tab, Num, Str, Bl, Null}
 use Rattle.ast.specs.Tree.{Plus, EqEq, Lit, Val, Text, Truth, Literal, Name, BinaryExpr, VarAssign, Expression, Array, ArrayAccess, VarInit, ExprStmt, IfStmt, ForStmt, OverName, Else, Stmt, Stmts, noStmts, moreStmts}
 use Rattle.compiler.specs.Lower.{lowerTree, programOf}
-use Rattle.vm.specs.RuntimeErr.{InvalidName}
+use Rattle.vm.specs.RuntimeErr.{InvalidName, IndexOutOfBounds}
 use Rattle.vm.specs.Machine.{Stopped}
 use Rattle.walk.specs.Walk.{walk, walkCount, walkNames, walkEnd}
 use Rattle.walk.specs.Bound.{bound}
@@ -71,12 +71,54 @@ fails-counted = refl
 
 -- ---- what is stored
 
-access-not-stored : walkNames (walk (script (VarInit 1 (Array 1 (one ∷ Text 2 ∷ Truth true ∷ [])) ∷ VarInit 2 (ArrayAccess 1 (Literal one)) ∷ []))) 2 ≡ none
-unfolding indexOf ofBits
-access-not-stored = refl
+abbrev accessing : Stmts
+accessing = script (VarInit 1 (Array 1 (one ∷ Text 2 ∷ Truth true ∷ [])) ∷ VarInit 2 (ArrayAccess 1 (Literal one)) ∷ [])
 
-true-stores-false : walkNames (walk (script (VarInit 2 (Expression (Literal (Truth true))) ∷ []))) 2 ≡ some (One (Bl false))
-true-stores-false = refl
+access-stored : walkNames (walk accessing) 2 ≡ some (One (Str 2))
+unfolding indexOf ofBits
+access-stored = refl
+
+access-counted : walkCount (walk accessing) ≡ 4
+unfolding indexOf ofBits
+access-counted = refl
+
+bound-of-access : bound accessing ≡ 4
+bound-of-access = refl
+
+-- in a loop over 3 items the store is a step of each pass: 1 + 2 + 3 · (7 + 3)
+abbrev accessing-each : Stmts
+accessing-each =
+    script (VarInit 1 (Array 1 (one ∷ two ∷ Val 0x4008000000000000 ∷ []))
+    ∷ ForStmt 2 3 (OverName 1) (script (ExprStmt (VarAssign 4 (ArrayAccess 1 (Name 2))) ∷ [])) ∷ [])
+
+each-counted : walkCount (walk accessing-each) ≡ 33
+unfolding indexOf ofInt ofBits
+each-counted = refl
+
+bound-of-each : bound accessing-each ≡ 33
+bound-of-each = refl
+
+-- past the end: the name stays as it was
+abbrev accessing-past : Stmts
+accessing-past =
+    script (VarInit 1 (Array 1 (one ∷ two ∷ []))
+    ∷ VarInit 2 (Expression (Literal (Text 1))) ∷ ExprStmt (VarAssign 2 (ArrayAccess 1 (Literal (Val 0x4022000000000000)))) ∷ [])
+
+past-told : walkEnd (walk accessing-past) ≡ Stopped (IndexOutOfBounds 1 9 2)
+unfolding indexOf ofBits
+past-told = refl
+
+past-stays : walkNames (walk accessing-past) 2 ≡ some (One (Str 1))
+unfolding indexOf ofBits
+past-stays = refl
+
+-- the array's own name takes its item
+own-name-takes : walkNames (walk (script (VarInit 1 (Array 1 (Text 2 ∷ Truth true ∷ [])) ∷ ExprStmt (VarAssign 1 (ArrayAccess 1 (Literal one))) ∷ []))) 1 ≡ some (One (Bl true))
+unfolding indexOf ofBits
+own-name-takes = refl
+
+true-stores-true : walkNames (walk (script (VarInit 2 (Expression (Literal (Truth true))) ∷ []))) 2 ≡ some (One (Bl true))
+true-stores-true = refl
 
 unset-stores-nothing : walkNames (walk (script (VarInit 1 (Expression (Name 2)) ∷ []))) 1 ≡ some (One Null)
 unset-stores-nothing = refl

@@ -27,11 +27,12 @@ abbrev pub costItems : Items → ℕ
 costItems noItems = 0
 costItems (moreItems k e is) = costExpr e + (1 + costItems is)
 
+-- an ArrayAccess: the load and the store, document 02, M-100: "one instruction to the bound"
 abbrev pub costRhs : Rhs → ℕ
 costRhs (Expression e) = costAssign e
 costRhs (Table is) = 1 + costItems is
 costRhs (Array a ls) = 1
-costRhs (ArrayAccess a i) = costExpr i + 1
+costRhs (ArrayAccess a i) = costExpr i + 2
 
 -- an expression as a statement
 abbrev pub costOwn : Expr → ℕ

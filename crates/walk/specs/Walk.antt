@@ -9,7 +9,7 @@ use Rattle.sifv.specs.Value.{Single, Num, Null, Value, One, Arr, Tab}
 use Rattle.ast.specs.Tree.{Expr, Literal, Name, BinaryExpr, UnaryExpr, VarAssign, ArrayMut, FnCall, Rhs, Expression, Table, Array, ArrayAccess}
 use Rattle.ast.specs.Tree.{Items, noItems, moreItems, Source, OverName, OverCall}
 use Rattle.ast.specs.Tree.{Stmt, Block, IfStmt, ForStmt, Return, ReturnExpr, ExprStmt, VarDecl, VarInit, FnDecl, Stmts, noStmts, moreStmts, Rest, Else, Elif}
-use Rattle.compiler.specs.Literals.{literal, assigned, binKind, unKind}
+use Rattle.compiler.specs.Literals.{literal, binKind, unKind}
 use Rattle.vm.specs.RuntimeErr.{RuntimeErr}
 use Rattle.vm.specs.Operation.{Got, Ok, Err, Names, empty, put, orNull, held, array, binary, unary, truth, read, arrayItem, update, tabled}
 use Rattle.vm.specs.Machine.{Answer, Done, Stopped}
@@ -61,9 +61,9 @@ walkExpr (FnCall f ps) e = notPlain e (One Null)
 
 -- ---- right sides, stored under x
 
--- "Assigning True stores false." "Copying an unset name stores nothing-value."
+-- "Assigning True now stores true." (document 02, M-100) "Copying an unset name stores nothing-value." (document 01)
 abbrev pub walkAssign : ℕ → Expr → Walked Value → Names → Walked (Unit {0})
-walkAssign x (Literal l) o e = steps 1 (put e x (some (One (assigned l))))
+walkAssign x (Literal l) o e = steps 1 (put e x (some (One (literal l))))
 walkAssign x (Name y) o e = steps 1 (put e x (orNull (e y)))
 walkAssign x (BinaryExpr t a b) o e = o >>= λ e₁ v. steps 1 (put e₁ x (some v))
 walkAssign x (UnaryExpr t a) o e = o >>= λ e₁ v. steps 1 (put e₁ x (some v))
@@ -76,12 +76,12 @@ abbrev pub walkItems : Items → ℕ → Names → Walked (Unit {0})
 walkItems noItems x e = steps 0 e
 walkItems (moreItems k t is) x e = walkExpr t e >>= λ e₁ v. makes e₁ (tabled e₁ x k (some v)) >>= λ e₂ u. walkItems is x e₂
 
--- an Array stores under its own name; an ArrayAccess is read, and not stored
+-- An Array stores under its own name. An ArrayAccess is read, then stored: document 02, M-100, "That store adds one step each time it runs".
 abbrev pub walkRhs : Rhs → ℕ → Names → Walked (Unit {0})
 walkRhs (Expression t) x e = walkAssign x t (walkExpr t e) e
 walkRhs (Table is) x e = counting 1 (walkItems is x (put e x (some (Tab []))))
 walkRhs (Array a ls) x e = steps 1 (put e a (some (Arr (map literal ls))))
-walkRhs (ArrayAccess a i) x e = walkExpr i e >>= λ e₁ v. gets e₁ (arrayItem e₁ a v) >>= λ e₂ w. steps 0 e₂
+walkRhs (ArrayAccess a i) x e = walkExpr i e >>= λ e₁ v. gets e₁ (arrayItem e₁ a v) >>= λ e₂ w. steps 1 (put e₂ x (some w))
 
 -- an expression as a statement. ArrayMut: the value first, then the index
 abbrev pub walkOwn : Expr → Names → Walked (Unit {0})

@@ -7,7 +7,8 @@ use crate::script::Binary;
 use crate::show::RESERVED;
 
 /// What is said where an item is read inside an expression.
-pub(super) const ITEM_READ: &str = "an item is read as a whole right side only, as in x = cells[2]";
+pub(super) const ITEM_READ: &str =
+    "an item is first given to a name, as in x = cells[2]; the expression then takes x";
 
 /// The tokens of a line, one after the other.
 pub(super) struct Cursor<'l> {

@@ -26,7 +26,8 @@ impl Parser<'_> {
             let name = self.name(cursor, "a name")?;
             let index = self.index(cursor)?;
             if !cursor.is("=") {
-                let words = format!("{ITEM_READ}, and set as in cells[2] = 1");
+                let words = "an item is given to a name, as in x = cells[2], or set, as in \
+                             cells[2] = 1";
                 return Err(Error::new(at, words));
             }
             cursor.expect("=")?;

@@ -11,5 +11,6 @@ weight-spec =
     (λ c. rw (lt-leb 19 _ (c .before .before .before .if1 .left), c .before .before .if2 .left, c .before .if3 .taken) (c .empty .ensures))
     (λ c. rw (lt-leb 19 _ (c .before .before .before .if1 .left), c .before .before .if2 .left, c .before .if3 .left, eq-eqb _ 3 (c .if4 .taken)))
     (λ c. rw (lt-leb 19 _ (c .before .before .before .before .if1 .left), c .before .before .before .if2 .left, c .before .before .if3 .left, ne-eqb _ 3 (c .before .if4 .left), eq-eqb _ 4 (c .if5 .taken)))
-    (λ c. rw (lt-leb 19 _ (c .before .before .before .before .before .if1 .left), c .before .before .before .before .if2 .left, c .before .before .before .if3 .left, ne-eqb _ 3 (c .before .before .if4 .left), ne-eqb _ 4 (c .before .if5 .left), c .if6 .taken))
-    (λ c. rw (lt-leb 19 _ (c .before .before .before .before .before .if1 .left), c .before .before .before .before .if2 .left, c .before .before .before .if3 .left, ne-eqb _ 3 (c .before .before .if4 .left), ne-eqb _ 4 (c .before .if5 .left), c .if6 .left)))
+    (λ c. rw (lt-leb 19 _ (c .before .before .before .before .before .if1 .left), c .before .before .before .before .if2 .left, c .before .before .before .if3 .left, ne-eqb _ 3 (c .before .before .if4 .left), ne-eqb _ 4 (c .before .if5 .left), eq-eqb _ 13 (c .if6 .taken)))
+    (λ c. rw (lt-leb 19 _ (c .before .before .before .before .before .before .if1 .left), c .before .before .before .before .before .if2 .left, c .before .before .before .before .if3 .left, ne-eqb _ 3 (c .before .before .before .if4 .left), ne-eqb _ 4 (c .before .before .if5 .left), ne-eqb _ 13 (c .before .if6 .left), c .if7 .taken))
+    (λ c. rw (lt-leb 19 _ (c .before .before .before .before .before .before .if1 .left), c .before .before .before .before .before .if2 .left, c .before .before .before .before .if3 .left, ne-eqb _ 3 (c .before .before .before .if4 .left), ne-eqb _ 4 (c .before .before .if5 .left), ne-eqb _ 13 (c .before .if6 .left), c .if7 .left)))

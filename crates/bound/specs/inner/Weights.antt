@@ -30,8 +30,10 @@ weight u k c =
     (cond (eqb k 3) 3
     -- Elif: JmpCnd, Jmpa
     (cond (eqb k 4) 2
-    -- Table, Item, Array, ArrayAccess, ArrayMut; ExprStmt and Assign have none, and a plain script has no 6, 9 or 15
-    (cond (leb 10 k && leb k 14) 1 0)))))
+    -- ArrayAccess: Ldav and Str
+    (cond (eqb k 13) 2
+    -- Table, Item, Array, ArrayMut; ExprStmt and Assign have none, and a plain script has no 6, 9 or 15
+    (cond (leb 10 k && leb k 14) 1 0))))))
 
 -- with its children's sum n; the longest array literal has l items, at least 1. For: "a loop's first Stc and its Ldas stand outside that loop, its Ldn to its
 -- JmpCnd inside"

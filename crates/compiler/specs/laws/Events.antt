@@ -25,7 +25,7 @@ use Rattle.opc.specs.Record.{itemsOf, regOk, textOk, lblOk}
 use Rattle.ast.specs.Tree.{Lit, Val, Text, Truth, Expr, Literal, Name, BinaryExpr, UnaryExpr, VarAssign, ArrayMut, FnCall, Rhs, Expression, Table, Array, ArrayAccess}
 use Rattle.ast.specs.Tree.{Exprs, noExprs, moreExprs, Items, noItems, moreItems, Source, OverName, OverCall}
 use Rattle.ast.specs.Flat.{flatLits, flatNames, flatExpr, flatRhs, flatExprs, flatItems, flatSource, flatStmt, flatStmts, flatRest, exprCount}
-use Rattle.compiler.specs.Literals.{literal, assigned, binKind, unKind}
+use Rattle.compiler.specs.Literals.{literal, binKind, unKind}
 use Rattle.ast.specs.Tree.{Stmt, Block, IfStmt, ForStmt, Return, ReturnExpr, ExprStmt, VarDecl, VarInit, FnDecl, Stmts, noStmts, moreStmts, Rest, Else, Elif}
 use Rattle.compiler.specs.Lower.{Place, Event, Reg, Push, Below, askBelow, prev, argRegs, assignRegs, litRegs, exprRegs, rhsRegs, paramRegs, itemRegs, sourceRegs, stmtRegs, stmtsRegs, restRegs}
 use Rattle.compiler.specs.Lower.{elseLabels, stmtLabels, stmtsLabels, restLabels, push, load, lowerLit, lowerArg, lowerAssign, lowerFnCall, lowerExpr, lowerRhs, lowerParams, lowerItems}
@@ -162,11 +162,6 @@ stored-literal (Val b) h = (refl, ofBits-fits binary64 b)
 stored-literal (Text t) h = (lt-ltb t 64 h, tt)
 stored-literal (Truth b) h = (refl, tt)
 
-stored-assigned : (l : Lit) → LitIn l → Stored (assigned l)
-stored-assigned (Val b) h = (refl, ofBits-fits binary64 b)
-stored-assigned (Text t) h = (lt-ltb t 64 h, tt)
-stored-assigned (Truth b) h = (refl, tt)
-
 lits-ok : {ls : List Lit} → Each LitIn ls → singlesOk (map literal ls) ≡ true
 lits-ok none = refl
 lits-ok (more {a = l} p h) = and-both (stored-literal l p .0) (lits-ok h)
@@ -238,7 +233,7 @@ module _ {Q : Place → Type 0} {Z : Type 0} (w : Place) (hw : Q w) (n : ℕ) (h
   assign-emits : (e : Expr) → (Z → ExprIn e) → (x : ℕ) → (Z → x < 64) → {r k m : ℕ} {es : List Event} (q : ℕ) → Emits Q Z n n r k m es → q ≡ r + k
       → Emits Q Z n n r (assignRegs e k) m (lowerAssign w n x e es q)
   assign-emits (Literal l) i x h {r = r} q a e =
-      so (an-op r (Stc (One (assigned l)) x) (λ z g. (and-both (text-in x (h z)) (stored-assigned l (i z) .0), stored-assigned l (i z) .1))) refl (omega arith)
+      so (an-op r (Stc (One (literal l)) x) (λ z g. (and-both (text-in x (h z)) (stored-literal l (i z) .0), stored-literal l (i z) .1))) refl (omega arith)
   assign-emits (Name y) i x h {r = r} q a e = so (an-op r (Stn y x) (λ z g. (and-both (text-in y (i z)) (text-in x (h z)), tt))) refl (omega arith)
   assign-emits (BinaryExpr t c d) i x h q a e = store-emits x h q a e
   assign-emits (UnaryExpr t c) i x h q a e = store-emits x h q a e
@@ -289,8 +284,9 @@ module _ {Q : Place → Type 0} {Z : Type 0} (w : Place) (hw : Q w) (n : ℕ) (h
     rhs-emits (ArrayAccess a i) h x g r =
         let q = r + exprRegs i in
         so (join (expr-emits i (λ z. h z .1) r)
-        (a-load q (Ldav a (prev q) q) (λ z o. (and-both (text-in a (h z .0)) (and-both (reg-in (prev q) (omega arith)) (reg-in q o)), tt))) refl)
-        refl (omega arith)
+        (join (a-load q (Ldav a (prev q) q) (λ z o. (and-both (text-in a (h z .0)) (and-both (reg-in (prev q) (omega arith)) (reg-in q o)), tt)))
+        (an-op (q + 1) (Str q x) (λ z o. (and-both (reg-in q (omega arith)) (text-in x (g z)), tt))) refl) refl)
+        (omega arith) (omega arith)
 
     pub params-emits : (ps : Exprs) → (Z → ExprsIn ps) → (r : ℕ) → Emits Q Z n n r (paramRegs ps) (length (flatExprs ps)) (lowerParams ps w n r)
     params-emits noExprs h r = nothing n r

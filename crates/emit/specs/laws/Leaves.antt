@@ -1,6 +1,6 @@
 -- Leaves: an instruction that loads a value.
 use Prim.Native.Nat.{ℕ}
-use mathlib.Core.Path.{_≡_, ap}
+use mathlib.Core.Path.{_≡_, ap, sym}
 use mathlib.Core.Bool.{Bool, true, false, cond}
 use mathlib.Core.List.{List, [], _∷_}
 use lib.Ieee.{Float, ofBits, toBits, binary64}
@@ -44,8 +44,9 @@ stored {s = s} w n o e h i b q =
     let h′ = rw e at h in
     record { cont = h′ .0; body = h′ .1; lbl = h′ .2; did = h′ .3 w (instr n o) i (b (s .items)) q }
 
-pub false-stored : {f : Fields} {n x : ℕ} → f ≡ fields n 9 3 x 0 0 0 0 → (j : ℕ) → fieldBytes f ≡ encodeInstr (instr n (Stc (One (Bl false)) x)) j
-false-stored g j = ap fieldBytes g
+pub bl-stored : {f : Fields} {n x v : ℕ} {t : Bool} (b : Bool) → b ≡ t → v ≡ cond t 1 0 → f ≡ fields n 9 3 x 0 0 0 v → (j : ℕ) → fieldBytes f ≡ encodeInstr (instr n (Stc (One (Bl b)) x)) j
+bl-stored true e h g j = ap fieldBytes (rw (h, sym e) at g)
+bl-stored false e h g j = ap fieldBytes (rw (h, sym e) at g)
 
 pub text-stored : {f : Fields} {n x v t : ℕ} → v ≡ t → f ≡ fields n 9 2 x 0 0 0 v → (j : ℕ) → fieldBytes f ≡ encodeInstr (instr n (Stc (One (Str t)) x)) j
 text-stored e g j = ap fieldBytes (rw e at g)

@@ -13,8 +13,8 @@ use Rattle.expr.proofs.Exprs.{one-reads, one-ready, call-one, un-made, 
 use Rattle.expr.proofs.Exprs.{mut-room, mut-roomb, mut-skips, mut-reads₁, mut-reads₂, mut-ready₃, mut-made, params-none, par-reads, par-next, par-ready, par-goes, call-ready₂, call-made}
 use Rattle.expr.proofs.Exprs.{asg-made, reads-room, mut-asks, call-asks, asg-asks, bin-asks, un-asks, num-asks, text-asks, name-asks}
 use Rattle.expr.proofs.Exprs.{mut-front, call-front, asg-front, bin-front, un-front, num-front, text-front, name-front, true-front, false-front, arg-front, none-front}
-use Rattle.expr.proofs.Rights.{front-ready, str-front, acc-made, tab-room, tab-cont, tab-reads, tab-made, items-none, items-room, item-reads, item-ready, item-next, item-goes}
-use Rattle.expr.proofs.Rights.{right-reads, tab-asks, acc-asks, exp-reads, tab-front, acc-front, num-stores, text-stores, name-stores, false-stores, expr-stores}
+use Rattle.expr.proofs.Rights.{front-ready, str-front, acc-made, acc-loads, tab-room, tab-cont, tab-reads, tab-made, items-none, items-room, item-reads, item-ready, item-next, item-goes}
+use Rattle.expr.proofs.Rights.{right-reads, tab-asks, acc-asks, exp-reads, tab-front, acc-front, num-stores, text-stores, name-stores, bl-stores, expr-stores}
 use Prim.Native.Nat.{ℕ, _<_}
 use mathlib.Core.List.{List}
 use borrow.Fn.Kinds.{PK, In}
@@ -80,7 +80,7 @@ use Rattle.emit.proofs.pass.Reads as pass-reads
 use Rattle.emit.proofs.prevreg.Reads as prevreg-reads
 use Rattle.emit.proofs.push_at.Reads as push-at-reads
 use Rattle.emit.proofs.push_op.Reads as push-op-reads
-use Rattle.emit.proofs.put_false.Reads as put-false-reads
+use Rattle.emit.proofs.put_bl.Reads as put-bl-reads
 use Rattle.emit.proofs.put_name.Reads as put-name-reads
 use Rattle.emit.proofs.put_num.Reads as put-num-reads
 use Rattle.emit.proofs.put_text.Reads as put-text-reads
@@ -199,13 +199,13 @@ varassign-at = at varassign-kinds.ps μ-varassign varassign.Pre
 -- what the functions called ask and ensure
 
 abbrev arrayaccess-claims : ℕ → arrayaccess-lts.Claims
-arrayaccess-claims t = (start-reads.Asked, start-reads.Learnt, below expr-at-kinds.ps μ-expr-at expr-at′.Pre t, expr-at′.Post, prevreg-reads.Asked, prevreg-reads.Learnt, fields-of-reads.Asked, fields-of-reads.Learnt, load-at-reads.Asked, load-at-reads.Learnt)
+arrayaccess-claims t = (start-reads.Asked, start-reads.Learnt, below expr-at-kinds.ps μ-expr-at expr-at′.Pre t, expr-at′.Post, prevreg-reads.Asked, prevreg-reads.Learnt, fields-of-reads.Asked, fields-of-reads.Learnt, load-at-reads.Asked, load-at-reads.Learnt, push-at-reads.Asked, push-at-reads.Learnt)
 
 abbrev arraymutexpr-claims : ℕ → arraymutexpr-lts.Claims
 arraymutexpr-claims t = (skip-reads.Asked, skip-reads.Learnt, start-reads.Asked, start-reads.Learnt, below expr-at-kinds.ps μ-expr-at expr-at′.Pre t, expr-at′.Post, below-reads.Asked, below-reads.Learnt, prevreg-reads.Asked, prevreg-reads.Learnt, fields-of-reads.Asked, fields-of-reads.Learnt, push-op-reads.Asked, push-op-reads.Learnt, with-reads.Asked, with-reads.Learnt)
 
 abbrev assign-claims : ℕ → assign-lts.Claims
-assign-claims t = (below match-table-assign-kinds.ps μ-match-table-assign match-table-assign.Pre t, match-table-assign.Post, arraydecl-reads.Asked, arraydecl-reads.Learnt, below arrayaccess-kinds.ps μ-arrayaccess arrayaccess.Pre t, arrayaccess.Post, put-num-reads.Asked, put-num-reads.Learnt, put-text-reads.Asked, put-text-reads.Learnt, put-name-reads.Asked, put-name-reads.Learnt, put-false-reads.Asked, put-false-reads.Learnt, below expr-assign-kinds.ps μ-expr-assign expr-assign.Pre t, expr-assign.Post)
+assign-claims t = (below match-table-assign-kinds.ps μ-match-table-assign match-table-assign.Pre t, match-table-assign.Post, arraydecl-reads.Asked, arraydecl-reads.Learnt, below arrayaccess-kinds.ps μ-arrayaccess arrayaccess.Pre t, arrayaccess.Post, put-num-reads.Asked, put-num-reads.Learnt, put-text-reads.Asked, put-text-reads.Learnt, put-name-reads.Asked, put-name-reads.Learnt, put-bl-reads.Asked, put-bl-reads.Learnt, below expr-assign-kinds.ps μ-expr-assign expr-assign.Pre t, expr-assign.Post)
 
 abbrev assign-at-claims : ℕ → assign-at-lts.Claims
 assign-at-claims t = (below assign-kinds.ps μ-assign assign.Pre t, assign.Post, moved-reads.Asked, moved-reads.Learnt)
@@ -256,8 +256,19 @@ arrayaccess-load-at-requires t c κs =
     let p = c .before .before .before .before .before .before .before .before .before .before .before .before .pre .1 in
     one-ready (acc-asks p) (p .0 .ready) (c .before .before .before .before .before .before .before .start .ensures) (c .before .before .before .before .before .expr-at .ensures)
 
+arrayaccess-push-at-requires : (t : ℕ) → arrayaccess-lts.Need-push-at-requires (arrayaccess-claims t) (arrayaccess-at t) arrayaccess.Post
+arrayaccess-push-at-requires t c κs =
+    let p = c .before .before .before .before .before .before .before .before .before .before .before .before .before .before .before .before .before .before .pre .1 in
+    acc-loads p (p .0 .ready) (c .before .before .before .before .before .before .before .before .before .before .before .before .before .start .ensures) (c .before .before .before .before .before .before .before .before .before .before .before .expr-at .ensures) (rw (c .before .before .before .before .before .before .before .before .prevreg .ensures) at (c .before .before .before .before .before .before .before .fields-of .ensures)) (c .before .before .before .before .before .load-at .ensures)
+
+arrayaccess-same-length : (t : ℕ) → arrayaccess-lts.Need-same-length (arrayaccess-claims t) (arrayaccess-at t) arrayaccess.Post
+arrayaccess-same-length t c = omega (arith, c .before .before .push-at .kept, c .before .before .before .before .before .before .before .before .load-at .kept, c .before .before .before .before .before .before .before .before .before .before .before .before .before .before .expr-at .kept)
+
 arrayaccess-returns : (t : ℕ) → arrayaccess-lts.Need-returns (arrayaccess-claims t) (arrayaccess-at t) arrayaccess.Post
-arrayaccess-returns t c = acc-front (c .before .before .before .before .before .before .before .before .before .before .before .before .before .before .before .pre .1 .1) (λ a i h. acc-made h (c .before .before .before .before .before .before .before .before .before .before .before .before .before .before .before .pre .1 .0 .ready) (c .before .before .before .before .before .before .before .before .before .before .start .ensures) (c .before .before .before .before .before .before .before .before .expr-at .ensures) (rw (c .before .before .before .before .before .prevreg .ensures) at (c .before .before .before .before .fields-of .ensures)) (c .before .before .load-at .ensures))
+arrayaccess-returns t c =
+    let p = c .before .before .before .before .before .before .before .before .before .before .before .before .before .before .before .before .before .before .before .before .before .pre .1 in
+    acc-front (p .1) (λ a i h. acc-made h (p .0 .ready) (c .before .before .before .before .before .before .before .before .before .before .before .before .before .before .before .before .start .ensures) (c .before .before .before .before .before .before .before .before .before .before .before .before .before .before .expr-at .ensures) (rw (c .before .before .before .before .before .before .before .before .before .before .before .prevreg .ensures) at (c .before .before .before .before .before .before .before .before .before .before .fields-of .ensures)) (c .before .before .before .before .before .before .before .before .load-at .ensures)
+    (rw (c .before .before .before .before .before .prevreg2 .ensures) at (c .before .before .before .before .fields-of2 .ensures)) (c .before .before .push-at .ensures))
 
 arraymutexpr-skip-requires : (t : ℕ) → arraymutexpr-lts.Need-skip-requires (arraymutexpr-claims t) (arraymutexpr-at t) arraymutexpr.Post
 arraymutexpr-skip-requires t c κs =
@@ -336,11 +347,11 @@ assign-put-name-requires t c κs = (c .before .before .before .before .before .b
 assign-returns-6 : (t : ℕ) → assign-lts.Need-returns-6 (assign-claims t) (assign-at t) assign.Post
 assign-returns-6 t c = name-stores (c .before .before .before .before .if6 .taken) (c .before .before .put-name .ensures)
 
-assign-put-false-requires : (t : ℕ) → assign-lts.Need-put-false-requires (assign-claims t) (assign-at t) assign.Post
-assign-put-false-requires t c κs = c .before .before .before .before .before .before .before .before .before .before .before .before .pre .1 .ready
+assign-put-bl-requires : (t : ℕ) → assign-lts.Need-put-bl-requires (assign-claims t) (assign-at t) assign.Post
+assign-put-bl-requires t c κs = c .before .before .before .before .before .before .before .before .before .before .before .before .pre .1 .ready
 
 assign-returns-7 : (t : ℕ) → assign-lts.Need-returns-7 (assign-claims t) (assign-at t) assign.Post
-assign-returns-7 t c = false-stores (c .before .before .before .before .if7 .taken) (c .before .before .put-false .ensures)
+assign-returns-7 t c = bl-stores (c .before .before .before .before .if7 .taken) (c .before .before .put-bl .ensures)
 
 assign-expr-assign-requires : (t : ℕ) → assign-lts.Need-expr-assign-requires (assign-claims t) (assign-at t) assign.Post
 assign-expr-assign-requires t c κs = (omega (arith, c .before .before .before .before .before .before .before .before .before .before .before .before .pre .0), (exp-reads (c .before .before .before .before .before .before .before .before .before .before .before .before .pre .1) (c .before .before .before .before .before .before .before .if1 .left) (c .before .before .before .before .before .before .if2 .left) (c .before .before .before .before .before .if3 .left)))
@@ -630,8 +641,8 @@ pub +arrayaccess+arraymutexpr+assign+assign-at+binarg+binarg-at+binop+expr+expr-
     (λ t. arrayaccess-lts.spec (arrayaccess-claims t) (arrayaccess-at t) arrayaccess.Post
     (λ c. omega (arith, acc-asks (c .before .before .before .before .pre .1) .body))
     (λ c κs. search needs) (arrayaccess-expr-at-requires t) (λ c κs. search needs)
-    (λ c κs. search needs) (arrayaccess-load-at-requires t) (λ c. search needs)
-    (arrayaccess-returns t))
+    (λ c κs. search needs) (arrayaccess-load-at-requires t) (λ c κs. search needs)
+    (λ c κs. search needs) (arrayaccess-push-at-requires t) (arrayaccess-same-length t) (arrayaccess-returns t))
     (λ t. arraymutexpr-lts.spec (arraymutexpr-claims t) (arraymutexpr-at t) arraymutexpr.Post
     (λ c. omega (arith, mut-roomb (mut-asks (c .before .before .before .before .pre .1) .3)))
     (λ c. omega (arith, mut-room (mut-asks (c .before .before .before .before .pre .1) .3)))
@@ -652,7 +663,7 @@ pub +arrayaccess+arraymutexpr+assign+assign-at+binarg+binarg-at+binop+expr+expr-
     (λ c. search needs) (λ c. c .before .before .arrayaccess .ensures) (assign-put-num-requires t)
     (λ c. search needs) (assign-returns-4 t) (assign-put-text-requires t) (λ c. search needs)
     (assign-returns-5 t) (assign-put-name-requires t) (λ c. search needs) (assign-returns-6 t)
-    (assign-put-false-requires t) (λ c. search needs) (assign-returns-7 t)
+    (assign-put-bl-requires t) (λ c. search needs) (assign-returns-7 t)
     (assign-expr-assign-requires t) (λ c. search needs) (assign-returns-8 t))
     (λ t. assign-at-lts.spec (assign-at-claims t) (assign-at-at t) assign-at′.Post
     (λ c. c .before .before .before .pre .1 .cont) (λ c. c .before .before .before .pre .1 .cont)

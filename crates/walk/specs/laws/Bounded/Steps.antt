@@ -96,7 +96,7 @@ module _ (l : ℕ) where
   w-rhs (Array a ls) x h = record { takes = λ e s. w-steps (small-put a s (items (rw length-map h))) }
   w-rhs (ArrayAccess a i) x h = record {
     takes = λ e s. w-more (omega arith) (w-bind (w-expr i e s) λ e₁ v s₁ k.
-        w-bind (w-gets e₁ s₁ (good-item a v s₁)) λ e₂ w s₂ m. w-steps s₂);
+        w-bind (w-gets e₁ s₁ (good-item a v s₁)) λ e₂ w s₂ m. w-steps (small-put x s₂ m));
   }
 
   w-own : (t : Expr) → longestExpr t ≤ l → Takes (costOwn t) (walkOwn t)

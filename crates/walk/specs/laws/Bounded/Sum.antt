@@ -121,7 +121,7 @@ module _ {l : ℕ} where
   a-rhs (Expression e) x n r h = a-assign e x n r _ h
   a-rhs (Table is) x n r h = a-push n _ (a-items is x n r h)
   a-rhs (Array a ls) x n r h = a-one n _
-  a-rhs (ArrayAccess a i) x n r h = a-append (a-expr i n r h) (a-load n _)
+  a-rhs (ArrayAccess a i) x n r h = a-append (a-expr i n r h) (a-append (a-load n _) (a-one n _))
 
   a-own : {d : ℕ} (e : Expr) (n r : ℕ) → T (plainOwn e) → Adds true l d n (lowerExpr e (main d) n r) (costOwn e)
   a-own (Literal c) n r h = a-expr (Literal c) n r h

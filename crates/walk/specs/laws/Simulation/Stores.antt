@@ -9,12 +9,12 @@ use lib.Dec.{T}
 use lib.ListN.{length-map}
 use mir.Facts.{and-yes}
 use Rattle.sifv.specs.Value.{Value, One, Arr, Tab}
-use Rattle.opc.specs.Op.{Op, Stc, Str, Tbli}
+use Rattle.opc.specs.Op.{Op, Ldav, Stc, Str, Tbli}
 use Rattle.tables.specs.Tables.{Program}
 use Rattle.ast.specs.Tree.{Expr, Literal, Name, BinaryExpr, UnaryExpr, VarAssign, ArrayMut, FnCall, Rhs, Expression, Table, Array, ArrayAccess, Items, noItems, moreItems}
 use Rattle.ast.specs.Plain.{plainExpr, plainItems, plainRhs, plainOwn}
-use Rattle.compiler.specs.Literals.{literal, assigned}
-use Rattle.compiler.specs.Lower.{Place, Event, prev, exprRegs, push, lowerExpr, lowerRhs, lowerItems}
+use Rattle.compiler.specs.Literals.{literal}
+use Rattle.compiler.specs.Lower.{Place, Event, prev, exprRegs, push, load, lowerExpr, lowerRhs, lowerItems}
 use Rattle.vm.specs.Operation.{Got, Ok, Names, put, orNull, arrayItem, update, tabled}
 use Rattle.vm.specs.Machine.{stores, execute}
 use Rattle.walk.specs.Walk.{Walked, _>>=_, steps, makes, walkItems, walkRhs, walkOwn}
@@ -81,7 +81,7 @@ module _ {P : Program} where
         }
 
     pub does-rhs : (k : Rhs) (x r : ℕ) → T (plainRhs k) → longestRhs k ≤ 2 ^ 53 → Stores P r (lowerRhs k x w n r) (walkRhs k x)
-    does-rhs (Expression (Literal l)) x r t z = does-constant (One (assigned l)) x single
+    does-rhs (Expression (Literal l)) x r t z = does-constant (One (literal l)) x single
     does-rhs (Expression (Name y)) x r t z = does-one (λ e. Ok (put e x (orNull (e y)))) (λ e s. ok (small-put x s (small-null (s .small y)))) (λ p e rs. refl)
     does-rhs (Expression (BinaryExpr o a b)) x r t z = does-store x (gives-expr w n (BinaryExpr o a b) r t)
     does-rhs (Expression (UnaryExpr o a)) x r t z = does-store x (gives-expr w n (UnaryExpr o a) r t)
@@ -97,9 +97,11 @@ module _ {P : Program} where
         record {
           does = λ h e rs s.
               let j = split (lowerExpr i w n r) h in
+              let k = split (load w n (Ldav a (prev q) q)) (j .right) in
               sim-bind (g .gives (j .left) e rs s) λ e₁ v rs₁ c.
-              sim-bind (sim-load q q q rs₁ (arrayItem e₁ a v) (j .right) (le-refl q) refl (c .smalls) (good-item a v (c .smalls)) (rw (c .value))) λ e₂ v₂ rs₂ d.
-              done stay (record { smalls = d .smalls; keep = keep-trans (c .keep) l (d .keep) });
+              sim-bind (sim-load q q q rs₁ (arrayItem e₁ a v) (k .left) (le-refl q) refl (c .smalls) (good-item a v (c .smalls)) (rw (c .value))) λ e₂ v₂ rs₂ d.
+              sim-weaken (sim-store q e₂ rs₂ (Ok (put e₂ x (some v₂))) (k .right) (ok (small-put x (d .smalls) (d .small))) (rw (d .value)))
+              (kept-after (keep-trans (c .keep) l (d .keep)) l);
         }
 
     pub does-own : (y : Expr) (r : ℕ) → T (plainOwn y) → longestExpr y ≤ 2 ^ 53 → Stores P r (lowerExpr y w n r) (walkOwn y)
