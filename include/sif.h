@@ -16,6 +16,8 @@
  * - Two buffers lent to one call must not overlap.
  * - Nothing else is written or kept: no heap, no writable global data, no file. Every call ends: lower by the size of its file, run by the
  *   steps given.
+ * - After an update: programs lowered before document 02's M-100 are accepted and run as they did. A state goes on with the program
+ *   that it was started for; a script that is lowered again is started again.
  * - Threads: calls on different buffers may run at the same time. A program that nobody writes may be lent to several calls at
  *   once, and a state that nobody writes to several sif_read_name; a state that is started or run is lent to that one call alone.
  * - Stack, measured on x86-64: sif_lower 31 KB over the files at the limits of bench/run, and up to 196 KB on a file of nothing

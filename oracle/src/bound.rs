@@ -28,7 +28,7 @@ fn sum(node: &Node, longest: u64, weight: u64) -> u64 {
             let inside = weight * longest;
             2 * weight + 7 * inside + sum(&node.kids[1], longest, inside)
         }
-        // Stores its constant or name, or is the array's own store.
+        // Stores a constant, a name, or what was computed or read; or is the array's own store.
         VAR_DECL | ASSIGN => match node.kids.first() {
             None => weight,
             Some(right) => right_side(right, longest, weight),

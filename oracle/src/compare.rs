@@ -191,16 +191,18 @@ fn equal<T: PartialEq + std::fmt::Debug>(what: &str, a: T, b: T) -> Result<(), S
     }
 }
 
-/// All trees of at most so many nodes: plain ones beside the walk, all of them beside `VM::run`.
+/// All trees of at most so many nodes, alone and behind an array: plain ones beside the walk, all of
+/// them beside `VM::run`.
 pub fn small(most: usize) -> Result<(), String> {
     let (mut figures, mut other, mut refused) = (Figures::default(), 0, 0);
     let roots = gen_small::all(most);
-    for (item, root) in roots.iter().enumerate() {
-        let file = file_of(root);
+    let behind = roots.iter().map(gen_small::behind_array);
+    for (item, root) in roots.iter().cloned().chain(behind).enumerate() {
+        let file = file_of(&root);
         let told = |why: String| format!("small tree {item}: {why}");
         match lower_file(&file) {
             Err(_) => refused += 1,
-            Ok(_) if is_plain(root) => {
+            Ok(_) if is_plain(&root) => {
                 one(&file, &mut Rng::new(1, item as u64), &mut figures).map_err(told)?;
             }
             Ok((_, lowered)) => {
@@ -210,8 +212,8 @@ pub fn small(most: usize) -> Result<(), String> {
         }
     }
     println!(
-        "small: all {} trees of at most {most} nodes: {} plain ones agree with the walk, {other} \
-         others with VM::run, {refused} refused",
+        "small: all {} trees of at most {most} nodes, alone and behind an array: {} plain ones \
+         agree with the walk, {other} others with VM::run, {refused} refused",
         roots.len(),
         figures.scripts
     );

@@ -140,7 +140,8 @@ impl Large<'_> {
             if deep { 1 } else { 16 },
             loops,
             if deep || !takes { 0 } else { 7 },
-            if takes { 3 } else { 0 },
+            // an item's value stands four deeper, under an Assign
+            if takes && depth < 29 { 3 } else { 0 },
             if self.plain { 0 } else { 8 },
         ];
         match self.rng.weighted(&weights) {

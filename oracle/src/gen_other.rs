@@ -132,6 +132,7 @@ fn odd_values() -> Vec<Node> {
         program(vec![items(), set(3, assign(4, access(1, num(1.0))))]),
         program(vec![items(), set(3, binary(1, assign(4, access(1, num(1.0))), num(3.0)))]),
         program(vec![items(), stmt(call(5, vec![assign(4, access(1, num(0.0)))]))]),
+        program(vec![items(), set(3, table(vec![(1, assign(4, access(1, num(1.0))))]))]),
         program(vec![items(), set(3, access(1, yes()))]),
         one(set(3, assign(4, yes()))),
         program(vec![set(3, assign(4, yes()))]),

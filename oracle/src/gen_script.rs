@@ -307,7 +307,8 @@ impl Script<'_> {
             return self.new_array();
         };
         let index = self.index(from, depth + 2);
-        let name = self.any_name();
+        let name = self.name_for(Guess::Num);
+        self.learn(name, Guess::Num);
         self.bind(name, access(from, index))
     }
 
@@ -568,7 +569,10 @@ impl Script<'_> {
             0 => self.truth_literal(),
             1 => name(self.any_name()),
             2 => array(self.any_name(), vec![num(1.0), num(2.0)]),
-            3 => access(self.any_name(), num(0.0)),
+            3 => {
+                let from = self.name_with(Guess::Array).unwrap_or(1);
+                access(from, self.index(from, depth + 1))
+            }
             4 => table(vec![(1, num(1.0))]),
             _ => self.sum(depth),
         }

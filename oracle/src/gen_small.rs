@@ -15,6 +15,12 @@ pub fn all(most: usize) -> Vec<Node> {
     (0..most).flat_map(|nodes| small.lists(nodes, &small.statements)).map(program).collect()
 }
 
+/// The same with an array of two items in front, so that loads and loops find one.
+pub fn behind_array(root: &Node) -> Node {
+    let items = set_array(1, vec![num(1.0), yes()]);
+    program([vec![items], root.kids.clone()].concat())
+}
+
 /// The trees of each number of nodes, from 1: entry 0 has none.
 struct Small {
     expressions: Vec<Vec<Node>>,

@@ -127,7 +127,19 @@ fn accesses() -> Vec<Node> {
         pass(vec![again(1, name(2))]),
         pass(vec![for_(4, 5, name(1), block(vec![again(6, name(2)), again(7, name(4))]))]),
         after(vec![set(2, yes()), set(3, no()), stmt(assign(3, yes())), stmt(assign(2, no()))]),
-        pass(vec![if_(name(4), block(vec![]), vec![], vec![]), set(4, yes())]),
+        after(vec![decl(5, None), stmt(mutate(1, num(0.0), name(5))), read(2, num(0.0))]),
+        after(vec![
+            set(4, no()),
+            for_(
+                2,
+                3,
+                name(1),
+                block(vec![
+                    if_(name(4), block(vec![decl(5, None)]), vec![], vec![]),
+                    set(4, yes()),
+                ]),
+            ),
+        ]),
         program(vec![set(4, yes()), if_(name(4), block(vec![decl(5, None)]), vec![], vec![])]),
     ]
 }

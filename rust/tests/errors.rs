@@ -203,7 +203,9 @@ fn words_of_errors() {
     assert!(words("if x:\n    y\nelse if z:\n    y").contains("elif"));
     assert!(words("x += 1").contains("x = x + 1"));
     assert!(words("x = 1,5").contains("1.5"));
-    assert!(words("for i, v in 3:\n    y").ends_with("as in for i, v in cells"));
+    for text in ["for i, v in 3:\n    y", "for i, v in cells[2]:\n    y"] {
+        assert!(words(text).ends_with("as in for i, v in cells"), "{text}");
+    }
     assert!(words("x = nan(7ff0000000000000)").starts_with("this is no NaN"));
     assert!(words("# one\rx = 1\r").starts_with("the character 13 has no meaning"));
     assert!(words("x = .5").contains("0.5"));

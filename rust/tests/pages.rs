@@ -113,8 +113,9 @@ fn names_take_what_they_are_given() {
     let (names, answer) = run("var cells = [1, 2, 3]\nx = cells[2]\nvar y = 3 + x");
     assert_eq!((&names["x"], &names["y"], answer), (&number(3.0), &number(6.0), Answer::Done));
     assert_eq!(run("cells = [1, true]\ncells = cells[1]").0["cells"], truth(true));
-    let (names, _) = run("cells = [1]\nx = 5\nx = cells[9]");
+    let (names, answer) = run("cells = [1]\nx = 5\nx = cells[9]");
     assert_eq!(names["x"], number(5.0));
+    assert!(matches!(answer, Answer::Stopped { .. }));
 }
 
 #[test]

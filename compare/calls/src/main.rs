@@ -118,7 +118,11 @@ fn all(cases: &str, seed: u64, amount: &Amount) -> Result<(), String> {
     calls += part("small", |place| {
         let mut figures = Figures::default();
         let trees = small::all(place, amount.small, &mut figures)?;
-        Ok(format!("all {trees} trees of at most {} nodes; {}", amount.small, said(&figures)))
+        Ok(format!(
+            "all {trees} trees of at most {} nodes, alone and behind an array; {}",
+            amount.small,
+            said(&figures)
+        ))
     })?;
     calls += part("files", |place| {
         let files = lowering::generated(place, seed, amount.files)?;

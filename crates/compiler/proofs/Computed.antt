@@ -1,7 +1,7 @@
 -- The lowering, computed on small trees: document 01's cases, and what its "Lowering rules that surprise" and document 02, M-100, say of instructions. A row
 -- has the tree file as one number, its size before it, then the tree and what it is lowered to. The first `refl` says that the file is read as this tree, the
--- second that this tree is lowered so. The rows' programs and refusals are the original's for the same files; oracle/ compares every row with it. The limits
--- behind the rows are document 01's, on trees made by repetition; they have no file there.
+-- second that this tree is lowered so. The rows' programs and refusals are those of the original, so altered, for the same files; oracle/ compares every row with
+-- it. The limits behind the rows are document 01's, on trees made by repetition; they have no file there.
 use Prim.Native.Nat.{ℕ, zero, suc}
 use mathlib.Core.Path.{_≡_, refl}
 use mathlib.Core.Bool.{true, false}

@@ -1,6 +1,6 @@
 // Emitting: what an event of the lowering changes, in the state and in the program buffer (`nextreg`, `push_op` of compiler.rs).
 ghost use mathlib.Core.Path.{_≡_};
-ghost use mathlib.Core.Bool.{Bool, true, false, cond};
+ghost use mathlib.Core.Bool.{Bool, true, cond};
 ghost use Rattle.sifv.specs.Value.{Bl, One};
 ghost use mathlib.Core.List.{List, [], _∷_};
 ghost use Prim.Native.Nat.{ℕ, _+_, _*_, _-_, _^_, _≤_, _<_};

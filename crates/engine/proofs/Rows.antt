@@ -1,5 +1,5 @@
--- More rows of the same form. Listings and states are the original's, built from its sources and run by oracle/. Together with the cases and the programs
--- they have every operation, every stop, every refusal, and each lowering rule that surprises.
+-- More rows of the same form. Listings and states are the original's, built from its sources with the places altered that document 02 names, and run by
+-- oracle/. Together with the cases and the programs they have every operation, every stop, every refusal, and each lowering rule that surprises.
 use mathlib.Core.List.{List, [], _∷_}
 use lib.Dec.{T}
 use lib.Ieee.{add, sub, mul, div, rem, neg, lt, le, eq, ne, ofInt, ofBits, toBits}
@@ -35,7 +35,15 @@ rows =
     row "0009020601010208010c0214001600070110010d011300666f72746d706101010101013ff0000000000000"
     "start 0\nop 0 0 Stc Arr:[Str:1,Bl:1] 1\nop 1 0 Ldc 0 Num:3ff0000000000000\nop 2 0 Ldav 1 0 1\nop 3 0 Str 1 1\nlabel 0 0\nbound 4\nend done 4\nheld 1\nname 1 Bl:1\n"
     "reg 0 Num:3ff0000000000000\nreg 1 Bl:1\nstack\ncalls\nposition 4\ncount 4\n" ∷
-    -- x = (y = True): y takes true, x the register before
+    -- in If, Elif and else: the store has the load's label
+    row "001803060101010208010c02130013000304110213001300020108010d0113000402110213001300020108010d01130008010d011300666f72746d70616201013ff0000000000000400000000000000001063ff0000000000000400000000000000002010000000000000000063ff000000000000040000000000000000201000000000000000002013ff0000000000000"
+    "start 0\nop 0 0 Stc Arr:[Num:3ff0000000000000,Num:4000000000000000] 1\nop 1 0 Ldc 0 Num:3ff0000000000000\nop 2 0 Ldc 1 Num:4000000000000000\nop 3 0 Binary Eq 0 1 2\nop 4 0 JmpCnd Jmpf 2 2\nop 5 1 Ldc 3 Num:0000000000000000\nop 6 1 Ldav 1 3 4\nop 7 1 Str 4 2\nop 8 1 Jmpa 5\nop 9 2 Ldc 5 Num:3ff0000000000000\nop 10 2 Ldc 6 Num:4000000000000000\nop 11 2 Binary Eq 5 6 7\nop 12 2 JmpCnd Jmpf 7 4\nop 13 3 Ldc 8 Num:0000000000000000\nop 14 3 Ldav 1 8 9\nop 15 3 Str 9 2\nop 16 3 Jmpa 5\nop 17 4 Ldc 10 Num:3ff0000000000000\nop 18 4 Ldav 1 10 11\nop 19 4 Str 11 2\nop 20 5 Nop\nlabel 0 0\nlabel 1 5\nlabel 2 9\nlabel 3 13\nlabel 4 17\nlabel 5 20\nbound 21\nend done 13\nheld 2\nname 1 Arr:[Num:3ff0000000000000,Num:4000000000000000]\nname 2 Num:4000000000000000\n"
+    "reg 0 Num:3ff0000000000000\nreg 1 Num:4000000000000000\nreg 2 Bl:0\nreg 5 Num:3ff0000000000000\nreg 6 Num:4000000000000000\nreg 7 Bl:0\nreg 10 Num:3ff0000000000000\nreg 11 Num:4000000000000000\nstack\ncalls\nposition 21\ncount 13\n" ∷
+    -- in a function, an item and True
+    row "000f040601010101030901020308010d01130008011600060008010c021300130007010f00666f72746d706162630302013ff00000000000000301013ff0000000000000400000000000000003"
+    "start 6\nop 0 0 Fn 3\nop 1 0 Ldc 0 Num:3ff0000000000000\nop 2 0 Ldav 1 0 1\nop 3 0 Str 1 2\nop 4 0 Stc Bl:1 3\nop 5 0 FnRet\nop 6 1 Stc Arr:[Num:3ff0000000000000,Num:4000000000000000] 1\nop 7 1 Call 3 0\nop 8 1 FnStackPop 2\nlabel 0 0\nlabel 1 6\nfn 3 0\nbound none\nend done 8\nheld 3\nname 1 Arr:[Num:3ff0000000000000,Num:4000000000000000]\nname 2 Num:4000000000000000\nname 3 Bl:1\n"
+    "reg 0 Num:3ff0000000000000\nreg 1 Num:4000000000000000\nstack\ncalls\nfn 3 0\nposition 9\ncount 8\n" ∷
+    -- x = (y = True): y takes true, x the register before; here that is empty, and stores nothing-value
     row "00050306010101010701100110011600666f72746d7061620102"
     "start 0\nop 0 0 Stc Bl:1 2\nop 1 0 Str 0 1\nlabel 0 0\nbound none\nend done 2\nheld 2\nname 1 Null\nname 2 Bl:1\n"
     "stack\ncalls\nposition 2\ncount 2\n" ∷

@@ -1,8 +1,8 @@
--- The walk and the bound, computed on small scripts. The figures are the original's, printed by oracle/ for the same scripts (crates/engine/proofs has their
--- files). Each wrong turn of the walk or the bound gives another figure on one of them.
+-- The walk and the bound, computed on small scripts. The figures are the original's, with the places altered that document 02 names, printed by oracle/ for
+-- the same scripts (crates/engine/proofs has the files of most). Each wrong turn of the walk or the bound gives another figure on one of them.
 use Prim.Native.Nat.{ℕ}
 use mathlib.Core.Path.{_≡_, refl}
-use mathlib.Core.Bool.{true, false}
+use mathlib.Core.Bool.{true}
 use mathlib.Core.List.{List, [], _∷_}
 use mathlib.Core.Option.{Option, none, some}
 use lib.Ieee.{eq, ofInt, ofBits, toBits, binary64}
@@ -102,18 +102,18 @@ bound-of-each = refl
 abbrev accessing-past : Stmts
 accessing-past =
     script (VarInit 1 (Array 1 (one ∷ two ∷ []))
-    ∷ VarInit 2 (Expression (Literal (Text 1))) ∷ ExprStmt (VarAssign 2 (ArrayAccess 1 (Literal (Val 0x4022000000000000)))) ∷ [])
+    ∷ VarInit 2 (Expression (Literal (Val 0x4014000000000000))) ∷ ExprStmt (VarAssign 2 (ArrayAccess 1 (Literal (Val 0x4022000000000000)))) ∷ [])
 
 past-told : walkEnd (walk accessing-past) ≡ Stopped (IndexOutOfBounds 1 9 2)
 unfolding indexOf ofBits
 past-told = refl
 
-past-stays : walkNames (walk accessing-past) 2 ≡ some (One (Str 1))
-unfolding indexOf ofBits
+past-stays : pattern (walkNames (walk accessing-past) 2) ≡ 0x4014000000000000
+unfolding indexOf ofBits toBits
 past-stays = refl
 
 -- the array's own name takes its item
-own-name-takes : walkNames (walk (script (VarInit 1 (Array 1 (Text 2 ∷ Truth true ∷ [])) ∷ ExprStmt (VarAssign 1 (ArrayAccess 1 (Literal one))) ∷ []))) 1 ≡ some (One (Bl true))
+own-name-takes : walkNames (walk (script (VarInit 1 (Array 1 (Text 1 ∷ Truth true ∷ [])) ∷ ExprStmt (VarAssign 1 (ArrayAccess 1 (Literal one))) ∷ []))) 1 ≡ some (One (Bl true))
 unfolding indexOf ofBits
 own-name-takes = refl
 

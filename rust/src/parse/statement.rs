@@ -1,6 +1,6 @@
 //! Statements and blocks.
 
-use super::cursor::Cursor;
+use super::cursor::{is_sign, Cursor};
 use super::lex::{Line, Token};
 use super::{Error, Fields, Parser, Parts, Position};
 use crate::script::kind::*;
@@ -197,7 +197,11 @@ impl<'l> Parser<'l> {
             return Err(cursor.unexpected("the word in is missing before it"));
         }
         cursor.advance();
-        if !cursor.is_name() {
+        let item_of = cursor.is_name() && cursor.second().is_some_and(|token| is_sign(token, "["));
+        if item_of {
+            cursor.advance();
+        }
+        if item_of || !cursor.is_name() {
             return Err(
                 cursor.unexpected("a loop goes over a name or a call, as in for i, v in cells")
             );
