@@ -2,8 +2,8 @@
 //!
 //! The lowering takes registers and pushes instructions node by node. Here the same is counted,
 //! without making the instructions; the order is that of the original's `compiler.rs`, `stmt.rs` and
-//! `array.rs`, named at each function, with document 02's M-100 where an item is read. The engine remains the judge of whether a file is accepted;
-//! the tests hold this count to it.
+//! `array.rs`, named at each function, with document 02's M-100 where an item is read. The engine
+//! remains the judge of whether a file is accepted; the tests hold this count to it.
 //!
 //! ```
 //! use sif::{parse, place::Lowering};

@@ -231,7 +231,7 @@ impl Beside<'_> {
     }
 }
 
-/// One program: started and run by one plan, or by all.
+/// One program: started and run by one plan.
 pub fn one(
     place: &mut Place,
     code: &Code,
