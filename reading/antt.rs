@@ -1,8 +1,9 @@
 //! Files of antt, read by their layout: which names each item declares, and which names it needs. An
 //! item starts at its container's indent; whatever is indented further belongs to it.
+use crate::files::files;
 use std::collections::{BTreeMap, BTreeSet};
 use std::fs;
-use std::path::{Path, PathBuf};
+use std::path::Path;
 
 /// An item of a file, by its place in `Library::files`.
 pub type Need = (usize, usize);
@@ -73,19 +74,6 @@ fn unpublished(line: &str) -> &str {
 
 fn indent(line: &str) -> usize {
     line.len() - line.trim_start().len()
-}
-
-fn antt_files(dir: &Path, out: &mut Vec<PathBuf>) {
-    let Ok(entries) = fs::read_dir(dir) else { return };
-    let mut paths: Vec<PathBuf> = entries.flatten().map(|e| e.path()).collect();
-    paths.sort();
-    for path in paths {
-        if path.is_dir() {
-            antt_files(&path, out);
-        } else if path.extension().is_some_and(|e| e == "antt") {
-            out.push(path);
-        }
-    }
 }
 
 /// The module that a file is, from its path below the root: as other crates name it.
@@ -225,10 +213,8 @@ impl File {
 
 impl Library {
     pub fn read(root: &Path) -> Result<Library, String> {
-        let mut paths = Vec::new();
-        antt_files(&root.join("crates"), &mut paths);
         let mut library = Library { files: Vec::new(), modules: BTreeMap::new() };
-        for path in paths {
+        for path in files(&root.join("crates"), "antt") {
             let text = fs::read_to_string(&path).map_err(|e| format!("{}: {e}", path.display()))?;
             let name = path.strip_prefix(root).unwrap_or(&path).to_string_lossy().into_owned();
             if let Some(module) = module_of(&name) {
@@ -326,6 +312,11 @@ impl Library {
 
     pub fn files(&self, needs: &BTreeSet<Need>) -> BTreeSet<String> {
         needs.iter().map(|(f, _)| self.files[*f].path.clone()).collect()
+    }
+
+    /// The files of all definitions that some items need.
+    pub fn files_for(&self, roots: &BTreeSet<Need>) -> BTreeSet<String> {
+        self.files(&self.definitions_of(&self.closure(roots)))
     }
 
     /// Lines that are neither blank nor a comment nor an import.

@@ -1,8 +1,9 @@
 //! The contracts of Rattle's functions: the names that `requires` and `ensures` cite.
 use crate::antt::{import, tokens, Library, Need};
+use crate::files::files;
 use std::collections::{BTreeMap, BTreeSet};
 use std::fs;
-use std::path::{Path, PathBuf};
+use std::path::Path;
 
 /// The functions whose contracts are the project's promises, with the files that they stand in.
 const PUBLIC: [(&str, &str); 6] = [
@@ -22,7 +23,7 @@ pub fn needs(root: &Path, library: &Library) -> Result<(BTreeSet<Need>, BTreeSet
     let mut public = BTreeSet::new();
     let mut inner = BTreeSet::new();
     let mut met = 0;
-    for path in sources(&root.join("crates")) {
+    for path in files(&root.join("crates"), "rt") {
         let text = fs::read_to_string(&path).map_err(|e| format!("{}: {e}", path.display()))?;
         let name = path.strip_prefix(root).unwrap_or(&path).to_string_lossy().into_owned();
         let (imports, aliases) = imported(&text);
@@ -49,21 +50,6 @@ pub fn needs(root: &Path, library: &Library) -> Result<(BTreeSet<Need>, BTreeSet
     } else {
         Err(format!("{met} of {} public functions found", PUBLIC.len()))
     }
-}
-
-fn sources(dir: &Path) -> Vec<PathBuf> {
-    let mut out = Vec::new();
-    let Ok(entries) = fs::read_dir(dir) else { return out };
-    let mut paths: Vec<PathBuf> = entries.flatten().map(|e| e.path()).collect();
-    paths.sort();
-    for path in paths {
-        if path.is_dir() {
-            out.extend(sources(&path));
-        } else if path.extension().is_some_and(|e| e == "rt") {
-            out.push(path);
-        }
-    }
-    out
 }
 
 type Imports = BTreeMap<String, (String, String)>;

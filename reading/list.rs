@@ -8,11 +8,15 @@ pub struct Claims {
     pub believed: BTreeSet<String>,
     pub cited: BTreeSet<String>,
     pub theorems: Vec<(String, String)>,
+    /// those that speak of what only inner contracts cite
+    pub inner_theorems: Vec<(String, String)>,
     pub tables: BTreeSet<String>,
     /// the tables by name, with their files
     pub rows: Vec<(String, String)>,
     /// the lines to believe, as the document says
     lines: Option<usize>,
+    /// the lines of inner definitions that the theorems over what the code holds need beside them
+    inner_lines: Option<usize>,
 }
 
 /// The rows of the tables under a heading, as cells.
@@ -62,13 +66,15 @@ impl Claims {
             cited: files(&text, "What only inner contracts cite", 0),
             tables: files(&text, "Computed tables", 1),
             theorems: named(&text, "Theorems over the definitions"),
+            inner_theorems: named(&text, "Theorems over what the code holds"),
             rows: named(&text, "Computed tables"),
-            lines: number(&text),
+            lines: number(&text, " lines to believe"),
+            inner_lines: number(&text, " lines of inner definitions"),
         })
     }
 
     /// What the lists lack, and what they have that nothing needs.
-    pub fn compare(&self, believed: &BTreeSet<String>, cited: &BTreeSet<String>, library: &Library) -> Vec<String> {
+    pub fn compare(&self, believed: &BTreeSet<String>, cited: &BTreeSet<String>, told: &BTreeSet<String>, library: &Library) -> Vec<String> {
         let mut faults = Vec::new();
         let inner: BTreeSet<String> = cited.difference(believed).cloned().collect();
         for (list, needed, what) in [(&self.believed, believed, "the reading list"), (&self.cited, &inner, "the list of inner definitions")] {
@@ -80,6 +86,10 @@ impl Claims {
             }
         }
         faults.extend(misplaced(library, believed, &inner));
+        let more = library.lines(&told.difference(believed).cloned().collect());
+        if self.inner_lines != Some(more) {
+            faults.push(format!("the theorems over what the code holds need {more} lines of inner definitions"));
+        }
         let lines = library.lines(believed);
         if self.lines != Some(lines) {
             faults.push(format!("there are {lines} lines to believe"));
@@ -119,8 +129,8 @@ fn misplaced(library: &Library, believed: &BTreeSet<String>, inner: &BTreeSet<St
     faults
 }
 
-/// The number before "lines to believe".
-fn number(text: &str) -> Option<usize> {
-    let before = text.split(" lines to believe").next()?;
+/// The number before some words.
+fn number(text: &str, words: &str) -> Option<usize> {
+    let (before, _) = text.split_once(words)?;
     before.split_whitespace().last()?.replace(',', "").parse().ok()
 }

@@ -1,8 +1,9 @@
-//! What a reader has to believe: the files of definitions that the public contracts, the theorems of
+//! What a reader has to believe: the files of definitions that the public contracts, the theorems over the definitions in
 //! docs/CLAIMS.md and the computed tables need, found by names. Held to the reading list of
 //! docs/CLAIMS.md; see reading/README.md.
 mod antt;
 mod contracts;
+mod files;
 mod list;
 
 use antt::{Library, Need};
@@ -29,14 +30,9 @@ fn run(root: &Path, show: &str) -> Result<String, Vec<String>> {
     let (public, inner) = contracts::needs(root, &library).map_err(|e| vec![e])?;
     let mut faults = Vec::new();
     let mut roots: BTreeSet<Need> = public;
-    for (theorem, file) in &claims.theorems {
-        match library.item(file, theorem) {
-            Some(need) => {
-                roots.insert(need);
-            }
-            None => faults.push(format!("docs/CLAIMS.md: {file} has no {theorem}")),
-        }
-    }
+    roots.extend(stated(&library, &claims.theorems, &mut faults));
+    let told = stated(&library, &claims.inner_theorems, &mut faults);
+    let inner: BTreeSet<Need> = inner.union(&told).copied().collect();
     for (table, file) in &claims.rows {
         if library.item(file, table).is_none() {
             faults.push(format!("docs/CLAIMS.md: {file} has no {table}"));
@@ -48,7 +44,7 @@ fn run(root: &Path, show: &str) -> Result<String, Vec<String>> {
             None => faults.push(format!("docs/CLAIMS.md: there is no {file}")),
         }
     }
-    faults.extend(library.unseen(&roots));
+    faults.extend(library.unseen(&roots.union(&told).copied().collect()));
     let needed = library.definitions_of(&library.closure(&roots));
     let cited = library.definitions_of(&library.closure(&inner));
     if show == "show" {
@@ -59,10 +55,16 @@ fn run(root: &Path, show: &str) -> Result<String, Vec<String>> {
     let believed: BTreeSet<String> = library.files(&needed).difference(&claims.tables).cloned().collect();
     let cited = library.files(&cited);
     faults.extend(library.spare(&believed, &used));
-    faults.extend(claims.compare(&believed, &cited, &library));
+    for (theorem, file) in &claims.inner_theorems {
+        let need = library.item(file, theorem);
+        if need.is_some_and(|need| library.files_for(&BTreeSet::from([need])).is_subset(&believed)) {
+            faults.push(format!("docs/CLAIMS.md: {theorem} needs no inner definition, and belongs among the theorems over the definitions"));
+        }
+    }
+    faults.extend(claims.compare(&believed, &cited, &library.files_for(&told), &library));
     if faults.is_empty() {
         Ok(format!(
-            "reading: {} files, {} lines to believe, as docs/CLAIMS.md lists them; {} further files that inner contracts cite",
+            "reading: {} files, {} lines to believe, as docs/CLAIMS.md lists them; {} further files that inner contracts and theorems cite",
             believed.len(),
             library.lines(&believed),
             cited.difference(&believed).count()
@@ -70,6 +72,18 @@ fn run(root: &Path, show: &str) -> Result<String, Vec<String>> {
     } else {
         Err(faults)
     }
+}
+
+/// The theorems of a list, where their files have them.
+fn stated(library: &Library, theorems: &[(String, String)], faults: &mut Vec<String>) -> BTreeSet<Need> {
+    let mut out = BTreeSet::new();
+    for (theorem, file) in theorems {
+        match library.item(file, theorem) {
+            Some(need) => _ = out.insert(need),
+            None => faults.push(format!("docs/CLAIMS.md: {file} has no {theorem}")),
+        }
+    }
+    out
 }
 
 /// Each file of definitions and laws with what it is needed for, for a person who writes the list.

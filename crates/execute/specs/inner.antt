@@ -1,4 +1,5 @@
--- Definitions that only contracts inside the engine cite.
+-- Definitions that only contracts inside the engine, and the theorem `record-found`, cite.
+pub mod Means
 pub mod ProgramView
 pub mod TableView
 pub mod View

@@ -16,7 +16,8 @@ use Rattle.execute.specs.laws.Laying.{length-stack, length-frames, canon
 use Rattle.execute.specs.laws.Acts.{reg-formed, reg-value, name-formed, name-value, loads-law, loadv-law, wrote-law, stores-law}
 use Rattle.execute.specs.laws.Stacks.{stored-as}
 use Rattle.execute.specs.laws.Tabled.{looked-law}
-use Rattle.execute.specs.laws.Programs.{opAt, Means, means-at, step-at, jump-law, on-law}
+use Rattle.execute.specs.inner.Means.{Means, opAt}
+use Rattle.execute.specs.laws.Programs.{means-at, step-at, jump-law, on-law}
 use Rattle.execute.specs.declared.Step.{Step}
 use Rattle.execute.specs.declared.Step.the-variants as step
 use borrow.Author.Needs.{needs}
