@@ -93,11 +93,11 @@ impl Reached {
     fn take(&mut self, name: &str, section: &Section) -> Vec<String> {
         self.functions += usize::from(!section.instructions.is_empty());
         self.instructions += section.instructions.len();
+        let tables = section.names.iter().any(|name| name.starts_with(".rodata"));
         for instruction in &section.instructions {
             if let Some(word) = multiplies(instruction) {
                 self.products.push((word.to_string(), format!("{name}: {instruction}")));
             }
-            let tables = section.names.iter().any(|name| name.starts_with(".rodata"));
             if instruction.contains('*') && !(tables && instruction.starts_with("jmp ")) {
                 self.faults.push(format!("{name} goes where no name says: {instruction}"));
             }
@@ -116,7 +116,7 @@ fn symbol(line: &str) -> Option<(String, String)> {
     Some((left.split_whitespace().last()?.to_string(), right.split_whitespace().last()?.to_string()))
 }
 
-/// On x86-64: the word of an instruction that multiplies or divides, on whole numbers or others, by any unit; or an
+/// On x86-64: the word of an instruction that multiplies or divides, whole numbers or others, as these words begin; or an
 /// address with 3, 5 or 9 times a register.
 fn multiplies(instruction: &str) -> Option<&str> {
     let kinds = [
