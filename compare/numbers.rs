@@ -1,8 +1,10 @@
-//! The number leaves beside Rust's own operators.
+//! The number leaves beside Rust's own operators; the index beside a rule on the bit pattern.
 
 use crate::rng::Rng;
 
 extern "C" {
+    fn leaf_has_index(x: f64) -> bool;
+    /// 2^64 - 1, which is no number's index, where there is none.
     fn leaf_index_of(x: f64) -> u64;
     fn leaf_bits_of(x: f64) -> u64;
     fn leaf_from_bits(n: u64) -> f64;
@@ -18,11 +20,28 @@ fn bits(x: f64) -> u64 {
     if x.is_nan() { 0x7ff8_0000_0000_0000 } else { x.to_bits() }
 }
 
-/// Counts pairs and single numbers, and the differences among them.
+/// A number's index from its bits (document 02, M-103): whole numbers from 0 up to below 2^64 have one, minus zero has 0,
+/// every other number has none. Moved by the exponent, a whole number's digits leave none behind the point.
+fn index_by_bits(pattern: u64) -> Option<u64> {
+    if pattern & !SIGN == 0 {
+        return Some(0);
+    }
+    let exponent = (pattern & !SIGN) >> 52;
+    if pattern & SIGN != 0 || !(1023..1023 + 64).contains(&exponent) {
+        return None;
+    }
+    let moved = u128::from(pattern & DIGITS | 1 << 52) << (exponent - 1023);
+    let (whole, fraction) = (moved >> 52, moved & u128::from(DIGITS));
+    (fraction == 0).then_some(whole as u64)
+}
+
+/// Counts pairs, single numbers, numbers with an index and without, and the differences among them.
 #[derive(Default)]
 struct Tally {
     pairs: u64,
     singles: u64,
+    with_index: u64,
+    without: u64,
     differences: u64,
 }
 
@@ -46,11 +65,22 @@ impl Tally {
 
     fn single(&mut self, x: f64) {
         self.singles += 1;
-        let (index, pattern, back) =
-            unsafe { (leaf_index_of(x), leaf_bits_of(x), leaf_from_bits(x.to_bits())) };
-        self.expect("index", [x, 0.0], index, x as u64);
+        self.index(x.to_bits());
+        let (pattern, back) = unsafe { (leaf_bits_of(x), leaf_from_bits(x.to_bits())) };
         self.expect("pattern", [x, 0.0], pattern, bits(x));
         self.expect("number of the pattern", [x, 0.0], bits(back), bits(x));
+    }
+
+    fn index(&mut self, pattern: u64) {
+        let x = f64::from_bits(pattern);
+        let expected = index_by_bits(pattern);
+        match expected {
+            Some(_) => self.with_index += 1,
+            None => self.without += 1,
+        }
+        let (has, index) = unsafe { (leaf_has_index(x), leaf_index_of(x)) };
+        self.expect("an index", [x, 0.0], u64::from(has), u64::from(expected.is_some()));
+        self.expect("index", [x, 0.0], index, expected.unwrap_or(u64::MAX));
     }
 }
 
@@ -68,6 +98,55 @@ fn extremes() -> Vec<u64> {
     let negative: Vec<u64> = all.iter().map(|b| b | SIGN).collect();
     all.extend(negative);
     all
+}
+
+/// Numbers whose neighbours tell which numbers have an index.
+const BORDERS: [f64; 22] = [
+    0.0,
+    0.5,
+    1.0,
+    2.5,
+    2.9,
+    7.9,
+    23.0,
+    24.0,
+    2_147_483_648.0,
+    4_294_967_295.0,
+    4_294_967_296.0,
+    2_251_799_813_685_248.0,
+    4_503_599_627_370_496.0,
+    9_007_199_254_740_991.0,
+    9_007_199_254_740_992.0,
+    9_223_372_036_854_774_784.0,
+    9_223_372_036_854_775_808.0,
+    18_446_744_073_709_549_568.0,
+    18_446_744_073_709_551_616.0,
+    f64::MIN_POSITIVE,
+    f64::MAX,
+    f64::NAN,
+];
+
+/// The borders and their 64 neighbours on each side, with both signs.
+fn near_borders() -> impl Iterator<Item = u64> {
+    let near = |border: &f64| border.to_bits().saturating_sub(64)..=border.to_bits() + 64;
+    BORDERS.iter().flat_map(near).flat_map(|pattern| [pattern, pattern | SIGN])
+}
+
+/// A pattern by its turn: any, whole numbers up to 2^53, their neighbours, the neighbours of powers of two, few digits with
+/// an exponent around those of indexes.
+fn seeded_index(turn: u64, rng: &mut Rng) -> u64 {
+    let pattern = rng.next();
+    let beside = |pattern: u64, rng: &mut Rng| pattern - 8 + rng.below(17) as u64;
+    let whole = |rng: &mut Rng| ((pattern >> 11 >> rng.below(53)) as f64 + 1.0).to_bits();
+    let exponent = |rng: &mut Rng| (1020 + rng.below(70) as u64) << 52;
+    match turn % 8 {
+        0 => pattern,
+        1 | 2 => whole(rng),
+        3 | 4 => beside(whole(rng), rng),
+        5 => beside(exponent(rng), rng),
+        6 => exponent(rng) | ((pattern & DIGITS) >> rng.below(53) << rng.below(53) & DIGITS),
+        _ => beside(whole(rng), rng) | SIGN,
+    }
 }
 
 /// A pair by its turn: any patterns, near and farthest exponents, subnormals, whole numbers, multiples.
@@ -91,7 +170,8 @@ fn seeded(turn: u64, rng: &mut Rng, ends: &[u64]) -> (u64, u64) {
     }
 }
 
-/// Compares the leaves on all pairs of extremes and on so many seeded pairs.
+/// Compares the leaves on all pairs of extremes and on so many seeded pairs; the index also near every border and on four
+/// times so many numbers.
 pub fn compare(seed: u64, count: u64) -> Result<(), String> {
     let mut tally = Tally::default();
     let ends = extremes();
@@ -105,8 +185,17 @@ pub fn compare(seed: u64, count: u64) -> Result<(), String> {
         let (a, b) = seeded(turn, &mut rng, &ends);
         tally.pair(f64::from_bits(a), f64::from_bits(b));
     }
+    near_borders().for_each(|pattern| tally.index(pattern));
+    for turn in 0..4 * count {
+        tally.index(seeded_index(turn, &mut rng));
+    }
     println!("numbers: {} pairs, {} numbers, {} differences", tally.pairs, tally.singles, tally.differences);
-    if tally.differences == 0 { Ok(()) } else { Err(String::from("the number leaves differ from Rust")) }
+    println!("indexes: {} numbers with an index, {} without", tally.with_index, tally.without);
+    match (tally.differences, tally.with_index, tally.without) {
+        (0, 1.., 1..) => Ok(()),
+        (0, ..) => Err(String::from("indexes: all numbers or none")),
+        _ => Err(String::from("the number leaves differ from Rust or from the rule of indexes")),
+    }
 }
 
 /// Pairs to be timed, by what they are.

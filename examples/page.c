@@ -32,6 +32,7 @@ static const char *words(unsigned stop) {
         "an empty register pushed or put into a table", "a key that the table does not have",
         "an array or table put inside another", "stack full", "table full",
     };
+    if (stop == SIF_NO_INDEX) return "a number that is no index";
     return stop >= SIF_INVALID_NAME && stop <= SIF_TABLE_FULL ? stops[stop - SIF_INVALID_NAME] : "unknown";
 }
 

@@ -16,7 +16,7 @@ const WRONG: [(Edit, &str); 26] = [
     (edit("run", "plan[pos], loc", "plan[pos % 1000], loc"), "run::turns"),
     // through what carries out an operation
     (
-        edit("run", "let pos = loc.pos;", "let pos = numeric::index_of(numeric::modu(loc.pos as f64, n as f64)) as usize;"),
+        edit("run", "let pos = loc.pos;", "let pos = numeric::index_or_max(numeric::modu(loc.pos as f64, n as f64)) as usize;"),
         "run::turns",
     ),
     (edit("numeric", "pub fn modu(a: f64,", "pub fn modu(s: &[u8], a: f64,"), "numeric::modu"),

@@ -16,8 +16,10 @@
  * - Two buffers lent to one call must not overlap.
  * - Nothing else is written or kept: no heap, no writable global data, no file. Every call ends: lower by the size of its file, run by the
  *   steps given.
- * - After an update: programs lowered before document 02's M-100 are accepted and run as they did. A state goes on with the program
- *   that it was started for; a script that is lowered again is started again.
+ * - After an update: programs lowered before document 02's M-100 or M-103 are accepted and run as they did, but for M-103's rule: a
+ *   step whose index is a fraction, negative, a NaN, infinite, or 2^64 or more stops with 38, unless a 27 of that step comes first, in
+ *   states started before as well. A state goes on with the program that it was started for; a script that is lowered again is
+ *   started again.
  * - Threads: calls on different buffers may run at the same time. A program that nobody writes may be lent to several calls at
  *   once, and a state that nobody writes to several sif_read_name; a state that is started or run is lent to that one call alone.
  * - Stack, measured on x86-64: sif_lower 31 KB over the files at the limits of bench/run, and up to 196 KB on a file of nothing
@@ -65,7 +67,7 @@ enum {
     SIF_SPENT = 2               /* all given steps were taken, and the program goes on */
 };
 
-/* Stops: byte 1 of a report. A stopped step changes nothing, is not counted, and comes again if run again. */
+/* Stops, 20 to 36 and 38: byte 1 of a report. A stopped step changes nothing, is not counted, and comes again if run again. */
 enum {
     SIF_INVALID_NAME = 20,          /* a name that is not set; detail: text */
     SIF_INVALID_INCR = 21,          /* nothing to increment */
@@ -78,12 +80,13 @@ enum {
     SIF_NOT_AN_ARRAY = 28,          /* detail: text */
     SIF_INVALID_FN_SYM = 29,        /* a function that is not declared; detail: text */
     SIF_EMPTY_CALL_STACK = 30,      /* a return outside a call */
-    SIF_INDEX_OUT_OF_BOUNDS = 31,   /* details: text, index, length */
+    SIF_INDEX_OUT_OF_BOUNDS = 31,   /* details: text, index (at most 18446744073709549568), length */
     SIF_EMPTY_REGISTER = 32,        /* an empty register pushed or put into a table */
     SIF_KEY_ABSENT = 33,            /* a key that the table does not have */
     SIF_NESTED = 34,                /* an array or table put inside another */
     SIF_STACK_FULL = 35,            /* over 24 values or 24 calls */
-    SIF_TABLE_FULL = 36             /* a 17th key */
+    SIF_TABLE_FULL = 36,            /* a 17th key */
+    SIF_NO_INDEX = 38               /* no index: a fraction, negative, a NaN, infinite, 2^64 or more; after every 27, before 20 */
 };
 
 /* A report, 48 bytes. */

@@ -6,13 +6,14 @@ use std::fs;
 use std::path::Path;
 
 /// The functions whose contracts are the project's promises, with the files that they stand in.
-const PUBLIC: [(&str, &str); 6] = [
+const PUBLIC: [(&str, &str); 7] = [
     ("crates/engine/src/lib.rt", "sif_lower"),
     ("crates/engine/src/lib.rt", "sif_start"),
     ("crates/engine/src/lib.rt", "sif_run"),
     ("crates/engine/src/lib.rt", "sif_read_name"),
     ("crates/engine/src/lib.rt", "call_all"),
     ("crates/listing/src/main.rt", "listing"),
+    ("crates/numeric/src/lib.rt", "index_of"),
 ];
 
 /// The leaves as C functions: for `compare/` alone, no promise.

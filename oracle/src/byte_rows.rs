@@ -1,11 +1,11 @@
 //! The rows of the computed tables on bytes (`Rows.antt` in proofs/ of opc, tables, vm, report, lower
-//! and boundary, and `Written.antt` of opc): each is answered by the original, or by the oracle's own
-//! reader or writer of its bytes.
+//! and boundary, and `Written.antt` of opc) and on numbers (`Rows.antt` of numeric): each is answered
+//! by the original, by the oracle's own reader or writer of its bytes, or by the driver's rule.
 
 use std::collections::HashMap;
 
 use crate::calls;
-use crate::driver::{End, Stop};
+use crate::driver::{exact_index, End, Stop};
 use crate::listing::op_text;
 use crate::program::code_of_text;
 use crate::program_bytes::{self, Code};
@@ -341,25 +341,41 @@ pub fn written_of(table: &str) -> Result<usize, String> {
     Ok(records + items)
 }
 
-/// The stops by number, from 20 on.
-const STOPS: [&str; 17] = [
-    "InvalidName",
-    "InvalidIncr",
-    "InvalidIncrTy",
-    "InvalidDecr",
-    "InvalidDecrTy",
-    "InvalidJump",
-    "RegNoContents",
-    "TyMismatch",
-    "NotAnArray",
-    "InvalidFnSym",
-    "EmptyCallStack",
-    "IndexOutOfBounds",
-    "EmptyRegister",
-    "KeyAbsent",
-    "NotSingle",
-    "StackFull",
-    "KeysFull",
+/// Numbers by their bits, each with its index or none.
+pub fn indexes_of(table: &str) -> Result<usize, String> {
+    each(&lists(table, "Row")?, table, |mut words| {
+        words.expect("row")?;
+        let bits = words.next()?.strip_prefix("0x").map(|hex| u64::from_str_radix(hex, 16));
+        let Some(Ok(bits)) = bits else {
+            return Err(String::from("no bits"));
+        };
+        let expected = words.rest()?;
+        let found = exact_index(f64::from_bits(bits));
+        let text = found.map_or(String::from("none"), |index| format!("( some {index} )"));
+        Ok(text == expected)
+    })
+}
+
+/// The stops with their numbers.
+const STOPS: [(&str, u8); 18] = [
+    ("InvalidName", 20),
+    ("InvalidIncr", 21),
+    ("InvalidIncrTy", 22),
+    ("InvalidDecr", 23),
+    ("InvalidDecrTy", 24),
+    ("InvalidJump", 25),
+    ("RegNoContents", 26),
+    ("TyMismatch", 27),
+    ("NotAnArray", 28),
+    ("InvalidFnSym", 29),
+    ("EmptyCallStack", 30),
+    ("IndexOutOfBounds", 31),
+    ("EmptyRegister", 32),
+    ("KeyAbsent", 33),
+    ("NotSingle", 34),
+    ("StackFull", 35),
+    ("KeysFull", 36),
+    ("NoIndex", 38),
 ];
 
 /// Reports, each with the code's start, the position, the steps and the answer.
@@ -376,9 +392,9 @@ pub fn reports_of(table: &str) -> Result<usize, String> {
             ["Done"] => End::Done,
             ["Spent"] => End::Spent,
             ["Stopped", name, details @ ..] => {
-                let place = STOPS.iter().position(|stop| stop == name).ok_or("no stop")?;
+                let (_, number) = STOPS.iter().find(|stop| stop.0 == *name).ok_or("no stop")?;
                 let details: Result<Vec<u64>, _> = details.iter().map(|d| d.parse()).collect();
-                let stop = Stop::new(20 + place as u8, &details.map_err(|_| "no detail")?);
+                let stop = Stop::new(*number, &details.map_err(|_| "no detail")?);
                 End::Stopped { stop, line: position + 1 - start }
             }
             _ => return Err(String::from("no answer")),

@@ -1,5 +1,5 @@
-//! The cases 1 to 11 of document 01: their files, and what is stated of each; case 5 as document 02,
-//! M-100, changes it.
+//! The cases 1 to 11 of document 01: their files, and what is stated of each; cases 4 and 5 as
+//! document 02, M-103 and M-100, changes them.
 
 use crate::listing::listing;
 use crate::tree::*;
@@ -37,7 +37,7 @@ fn all() -> Vec<(u8, &'static str, bool)> {
         (1, "the file of the listing", case_1()),
         (2, "a loop over three items", case_2()),
         (3, "a condition that holds, and one that does not", case_3()),
-        (4, "indexes 2.9 and -7.9", case_4()),
+        (4, "indexes 2.9 and -7.9 stop, as document 02 has it", case_4()),
         (5, "b = True leaves true, as document 02 has it", case_5()),
         (6, "the empty Program", case_6()),
         (7, "f(1, 2) gives the first parameter 2", case_7()),
@@ -87,14 +87,13 @@ fn case_3() -> bool {
 }
 
 fn case_4() -> bool {
-    let set_item = |index: f64, value: f64| stmt(mutate(1, num(index), num(value)));
-    let script = program(vec![
-        set_array(1, vec![num(0.0), num(0.0), num(0.0)]),
-        set_item(2.9, 2.0),
-        set_item(-7.9, 1.0),
-    ]);
-    let left = "name 1 Arr:[Num:3ff0000000000000,Num:0000000000000000,Num:4000000000000000]";
-    has(&list(&script), &["end done 7", left])
+    let script = |index: Node| {
+        let items = vec![num(1.0), num(2.0), num(3.0)];
+        program(vec![set_array(1, items), stmt(mutate(1, index, num(9.0)))])
+    };
+    let left = "name 1 Arr:[Num:3ff0000000000000,Num:4000000000000000,Num:4008000000000000]";
+    has(&list(&script(num(2.9))), &["end stopped 3 38 4", "held 1", left])
+        && has(&list(&script(unary(2, num(7.9)))), &["end stopped 4 38 5", "held 1", left])
 }
 
 fn case_5() -> bool {

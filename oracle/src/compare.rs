@@ -164,7 +164,7 @@ impl Fresh {
 }
 
 /// The stepped machine beside the original's `VM::run`: all of both machines has to agree. None
-/// where the original would panic, meet an added size, or run on.
+/// where the original would panic, meet an added size or a 38, or run on.
 fn by_run(code: &Code) -> Result<Option<End>, String> {
     let mut stepped = code.machine();
     let end = stepped.run(STEPS);

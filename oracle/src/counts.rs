@@ -31,7 +31,7 @@ fn lines(what: &str, list: &[(Outcome, u64)]) -> String {
     let stored = list.iter().filter(|(one, stored)| one.sum == *stored).count();
     out += &format!("steps: {}\nnames held: {}\n", sum(|one| one.steps), sum(|one| one.held));
     out += &format!("in portions as in one run: {}\n", sum(|one| u64::from(one.portions)));
-    out + &format!("every byte as by the original: {stored}\n")
+    out + &format!("every byte as stored: {stored}\n")
 }
 
 /// Everything that it prints.

@@ -1,8 +1,8 @@
 //! Steps the original's VM, one instruction at a time.
 //!
-//! Where the Rust would panic, and at the sizes that document 01 added, the step is stopped
-//! before it is executed; where it would panic, it is run all the same and has to. Everything else
-//! is the original's `execute`.
+//! Where the Rust would panic, at the sizes that document 01 added, and at an index that is none
+//! (document 02, M-103), the step is stopped before it is executed; where it would panic, it is run
+//! all the same and has to. Everything else is the original's `execute`.
 
 use std::collections::HashMap;
 use std::panic::{catch_unwind, AssertUnwindSafe};
@@ -87,13 +87,13 @@ impl Machine {
         }
     }
 
-    /// The original's own `run`, for a program that meets neither a panic nor an added size.
+    /// The original's own `run`, for a program that meets no panic, no added size and no 38.
     pub fn run_by_original(&mut self) -> Result<(), Stop> {
         let result = self.vm.run();
         result.map_err(|error| self.stop_of(&error))
     }
 
-    /// Whether a stop is one of the original's own, here at the position.
+    /// Whether a stop is one of the original's own, here at the position; 38 is none.
     pub fn is_original_stop(&self, stop: &Stop) -> bool {
         let loading = matches!(self.vm.prog[self.vm.ip].op, Op::Ldav { .. });
         stop.number < 31 || stop.number == 31 && !loading
@@ -172,11 +172,11 @@ impl Machine {
         self.vm.inspect_dreg(index)
     }
 
-    /// The stops that document 01 adds to the original's, in its order.
+    /// The stops that documents 01 and 02 add to the original's, in their order.
     fn added_stop(&mut self, op: &Op) -> Option<Stop> {
         match op {
-            Op::Ldav { name, idx_reg, .. } => self.load_past_end(name, *idx_reg),
-            Op::Upda { name, idx_reg, val_reg } => self.nested_item(name, *idx_reg, *val_reg),
+            Op::Ldav { name, idx_reg, .. } => self.load_refused(name, *idx_reg),
+            Op::Upda { name, idx_reg, val_reg } => self.update_refused(name, *idx_reg, *val_reg),
             Op::Tbli { tabname, key, src } => self.table_insert(tabname, key, *src),
             Op::Tblg { tabname, key, .. } => self.key_absent(tabname, key),
             Op::Call { name, .. } => self.calls_full(name),
@@ -185,31 +185,39 @@ impl Machine {
         }
     }
 
-    /// The index in a register, if a number is there.
-    fn index_in(&mut self, register: usize) -> Option<usize> {
+    /// The number in a register, if one is there.
+    fn number_in(&mut self, register: usize) -> Option<f64> {
         match self.register(register) {
-            Some(SifVal::Num(n)) => Some(n as usize),
+            Some(SifVal::Num(n)) => Some(n),
             _ => None,
         }
     }
 
-    fn array_length(&self, name: &str) -> Option<usize> {
+    fn array_length(&self, name: &str) -> Option<u64> {
         match self.vm.heap.get(name) {
-            Some(SifVal::Arr(items)) => Some(items.len()),
+            Some(SifVal::Arr(items)) => Some(items.len() as u64),
             _ => None,
         }
     }
 
-    fn load_past_end(&mut self, name: &str, idx_reg: usize) -> Option<Stop> {
-        let index = self.index_in(idx_reg)?;
+    /// 38 comes behind the 27 of an empty register or no number, which the original's step gives.
+    fn load_refused(&mut self, name: &str, idx_reg: usize) -> Option<Stop> {
+        let number = self.number_in(idx_reg)?;
+        let Some(index) = exact_index(number) else {
+            return Some(Stop::bare(38));
+        };
         let length = self.array_length(name)?;
-        let details = [u64::from(text_of(name)), index as u64, length as u64];
+        let details = [u64::from(text_of(name)), index, length];
         (index >= length).then(|| Stop::new(31, &details))
     }
 
-    fn nested_item(&mut self, name: &str, idx_reg: usize, val_reg: usize) -> Option<Stop> {
-        let index = self.index_in(idx_reg)?;
+    /// 38 comes behind the 27s of both registers, which the original's step gives.
+    fn update_refused(&mut self, name: &str, idx_reg: usize, val_reg: usize) -> Option<Stop> {
+        let number = self.number_in(idx_reg)?;
         let value = self.register(val_reg)?;
+        let Some(index) = exact_index(number) else {
+            return Some(Stop::bare(38));
+        };
         let inside = index < self.array_length(name)?;
         (inside && !is_single(&value)).then(|| Stop::bare(34))
     }
@@ -255,6 +263,13 @@ impl Machine {
         assert_eq!(error.line, line, "the original's line");
         stop_of_type(&error.ty)
     }
+}
+
+/// The index of a number: whole numbers from 0 up to below 2^64 have one, minus zero has 0, every
+/// other number has none (document 02, M-103).
+pub fn exact_index(n: f64) -> Option<u64> {
+    let top = 18_446_744_073_709_551_616.0;
+    (n >= 0.0 && n < top && n.trunc() == n).then_some(n as u64)
 }
 
 fn is_single(value: &SifVal) -> bool {

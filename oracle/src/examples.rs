@@ -35,6 +35,7 @@ pub fn write(folder: &str) -> Result<(), String> {
         ("loop", example_file()),
         ("worksheet", worksheet()),
         ("past_the_end", past_the_end()),
+        ("no_index", no_index()),
         ("long", long()),
     ] {
         let write = |ending: &str, bytes: &[u8]| {
@@ -90,6 +91,16 @@ fn past_the_end() -> Vec<u8> {
         set(w.at("b"), num(0.1)),
         stmt(mutate(w.at("a"), num(3.0), num(2.0))),
         set(w.at("b"), num(1e300)),
+    ]);
+    w.file(&root)
+}
+
+/// An item at a number that is no index.
+fn no_index() -> Vec<u8> {
+    let w = Words::new(vec!["cells", "second"]);
+    let root = program(vec![
+        set_array(w.at("cells"), vec![num(1.0), num(2.0), num(3.0)]),
+        set(w.at("second"), access(w.at("cells"), num(2.5))),
     ]);
     w.file(&root)
 }

@@ -225,7 +225,8 @@ impl Large<'_> {
         self.take(4, 2, 3);
         let arrays = self.arrays.clone();
         let (from, length) = self.rng.pick(&arrays);
-        let index = num(self.rng.below(length.max(1)) as f64 + 0.5);
+        let fraction = if self.rng.chance(2) { 0.5 } else { 0.0 };
+        let index = num(self.rng.below(length.max(1)) as f64 + fraction);
         if self.rng.chance(50) {
             let target = self.name();
             return self.bind(target, access(from, index));

@@ -98,6 +98,11 @@ fn empty_registers() -> Vec<Node> {
     out.push(after(stmt(mutate(2, num(0.0), nothing()))));
     out.push(after(stmt(mutate(2, nothing(), nothing()))));
     out.push(after(stmt(mutate(9, num(0.0), nothing()))));
+    // the value's 27 before 38, and 38 before 20
+    out.push(after(stmt(mutate(2, num(2.5), nothing()))));
+    out.push(after(stmt(mutate(9, num(2.5), nothing()))));
+    out.push(after(stmt(mutate(9, num(2.5), num(1.0)))));
+    out.push(after(stmt(mutate(9, nothing(), num(1.0)))));
     out.push(after(set(3, access(2, nothing()))));
     out.push(after(set(3, access(9, nothing()))));
     out.push(after(set(3, table(vec![(1, nothing())]))));

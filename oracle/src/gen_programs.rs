@@ -1,6 +1,7 @@
 //! Generated programs, as texts: the operations that no tree yields, every stop, every order of
 //! two stops, and programs at random.
 
+use crate::gen_script::index_numbers;
 use crate::rng::Rng;
 
 /// Literals of each kind.
@@ -20,6 +21,7 @@ const BINARY: [&str; 14] = [
     "Lor",
 ];
 
+const ZERO: &str = "Num:0000000000000000";
 const ONE: &str = "Num:3ff0000000000000";
 const LIST: &str = "Arr:[Num:3ff0000000000000,Num:4000000000000000]";
 
@@ -52,6 +54,7 @@ pub fn all() -> Vec<String> {
     let mut out = one_register();
     out.extend(two_registers());
     out.extend(arrays());
+    out.extend(indexes());
     out.extend(tables());
     out.extend(jumps());
     out.extend(calls());
@@ -133,6 +136,7 @@ fn arrays() -> Vec<String> {
         "",
         "Ldc 0 Num:0000000000000000",
         "Ldc 0 Num:3ff0000000000000",
+        "Ldc 0 Num:4004000000000000",
         "Ldc 0 Num:43f0000000000000",
         "Ldc 0 Num:7ff8000000000000",
         "Ldc 0 Bl:1",
@@ -169,6 +173,55 @@ fn arrays() -> Vec<String> {
         "FnStackPop 6",
         "Str 6 1",
     ])));
+    out
+}
+
+/// Numbers that are an index of `LIST`, past its end, or none.
+const PLACES: [&str; 9] = [
+    "Num:0000000000000000",
+    "Num:8000000000000000",
+    "Num:3fe0000000000000",
+    "Num:4004000000000000",
+    "Num:bff0000000000000",
+    "Num:43efffffffffffff",
+    "Num:43f0000000000000",
+    "Num:7ff0000000000000",
+    "Num:7ff8000000000000",
+];
+
+/// Each special number, each border and its neighbours as an index; and as the index of a loop as the
+/// lowering emits it, from the start or from the body on.
+fn indexes() -> Vec<String> {
+    let mut out = Vec::new();
+    for number in index_numbers() {
+        let before = [format!("Stc {LIST} 1"), format!("Ldc 0 Num:{number:016x}")];
+        out.push(simple(&[&before[..], &lines(&["Ldav 1 0 0"])].concat()));
+        out.push(simple(&[&before[..], &lines(&["Ldc 1 Bl:1", "Upda 1 0 1"])].concat()));
+    }
+    for place in PLACES {
+        let (register, name) = (format!("Ldc 0 {place}"), format!("Stc {place} 2"));
+        for (steps, first, body) in
+            [(5, place, "Nop"), (40, place, "Nop"), (40, ZERO, &register), (40, ZERO, &name)]
+        {
+            out.push(labelled(
+                steps,
+                0,
+                &[
+                    (0, &format!("Stc {LIST} 1")),
+                    (0, &format!("Stc {first} 2")),
+                    (0, "Ldas 1 1"),
+                    (1, "Ldn 0 2"),
+                    (1, "Ldav 1 0 2"),
+                    (1, "Str 2 3"),
+                    (1, body),
+                    (1, "Incrr 0"),
+                    (1, "Str 0 2"),
+                    (1, "Binary Lt 0 1 4"),
+                    (1, "JmpCnd Jmpt 4 1"),
+                ],
+            ));
+        }
+    }
     out
 }
 
@@ -482,7 +535,7 @@ fn row_value(rng: &mut Rng) -> String {
     match rng.below(10) {
         0 => rng.pick(&LITERALS).to_string(),
         1 => rng.pick(&["Bl:0", "Bl:1"]).to_string(),
-        2 => rng.pick(&["Num:7ff8000000000000", "Num:8000000000000000"]).to_string(),
+        2 => rng.pick(&PLACES).to_string(),
         _ => format!("Num:{:016x}", (rng.below(5) as f64).to_bits()),
     }
 }
@@ -514,11 +567,11 @@ fn row(rng: &mut Rng, label: usize) -> Vec<String> {
         4 => vec![format!("Ldn {b} {y}")],
         5 => vec![format!("Ldc {b} {literal}")],
         6 => {
-            return vec![
-                format!("Ldn {a} {x}"),
-                format!("Ldav {} {left} {c}", rng.pick(&[4, 4, y])),
-                format!("Str {source} {z}"),
-            ]
+            // at times behind a store of the index
+            let place = rng.chance(30).then(|| format!("Stc {} {x}", rng.pick(&PLACES)));
+            let load = format!("Ldav {} {left} {c}", rng.pick(&[4, 4, y]));
+            let row = [format!("Ldn {a} {x}"), load, format!("Str {source} {z}")];
+            return place.into_iter().chain(row).collect();
         }
         _ => {
             let less = if rng.chance(85) { "Lt" } else { "LtEq" };

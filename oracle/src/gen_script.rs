@@ -47,6 +47,34 @@ pub const NUMBERS: [u64; 30] = [
     0x4059_0000_0000_0000, // 100
 ];
 
+/// Numbers whose neighbours tell which numbers are indexes.
+const BORDERS: [u64; 13] = [
+    0x3fe0_0000_0000_0000, // 0.5
+    0x3ff0_0000_0000_0000, // 1
+    0x4004_0000_0000_0000, // 2.5
+    0x4037_0000_0000_0000, // 23
+    0x4038_0000_0000_0000, // 24
+    0x41ef_ffff_ffe0_0000, // 2^32 - 1
+    0x41f0_0000_0000_0000, // 2^32
+    0x4330_0000_0000_0000, // 2^52
+    0x4340_0000_0000_0000, // 2^53
+    0x43e0_0000_0000_0000, // 2^63
+    0x43f0_0000_0000_0000, // 2^64
+    0xbfe0_0000_0000_0000, // -0.5
+    0xbff0_0000_0000_0000, // -1
+];
+
+/// Numbers to be used as indexes: the special ones, and the borders with their neighbours.
+pub fn index_numbers() -> Vec<u64> {
+    let mut out = NUMBERS.to_vec();
+    for number in BORDERS.iter().flat_map(|border| border - 1..=border + 1) {
+        if !out.contains(&number) {
+            out.push(number);
+        }
+    }
+    out
+}
+
 pub struct Script<'r> {
     rng: &'r mut Rng,
     plain: bool,
@@ -282,7 +310,7 @@ impl Script<'_> {
         stmt(mutate(into, index, value))
     }
 
-    /// Mostly an index inside the array, sometimes with a fraction.
+    /// Mostly an index inside the array; now and then a number that is no index.
     fn index(&mut self, array: u8, depth: usize) -> Node {
         self.take(1);
         let length = self.lengths[array as usize].max(1);
@@ -294,8 +322,9 @@ impl Script<'_> {
                 Some(number) => name(number),
                 None => num(0.0),
             },
-            7 | 8 => bits(self.rng.pick(&NUMBERS)),
-            9..=13 => num(self.rng.below(length) as f64 + 0.75),
+            7 => bits(self.rng.pick(&index_numbers())),
+            8 if self.rng.chance(50) => num(self.rng.below(length) as f64 + 0.75),
+            9 => unary(2, num(0.0)),
             14 => num(length as f64),
             _ => num(self.rng.below(length) as f64),
         }

@@ -1,7 +1,7 @@
 //! Every operator on every kind of value, every place that reads a value, and numbers of all
 //! sorts in arithmetic.
 
-use crate::gen_script::NUMBERS;
+use crate::gen_script::{index_numbers, NUMBERS};
 use crate::rng::Rng;
 use crate::tree::*;
 
@@ -84,23 +84,81 @@ pub fn all() -> Vec<Node> {
         }
         out.push(with(&[a, 5], vec![stmt(mutate(5, num(0.0), name(a)))]));
         out.push(with(&[a, 5], vec![stmt(mutate(5, num(2.0), name(a)))]));
+        // 38 before 20, 28 and 34
+        out.push(with(&[a], vec![set(8, access(a, num(2.5)))]));
+        out.push(with(&[a], vec![stmt(mutate(a, num(2.5), num(0.0)))]));
+        out.push(with(&[a, 5], vec![stmt(mutate(5, num(0.5), name(a)))]));
     }
     out.extend(indexes());
+    out.extend(computed_indexes());
     out.extend(accesses());
     out.extend(loops());
     out.extend(special_numbers());
     out
 }
 
-/// Each special number as an index into arrays of 0, 1 and 4 items.
+/// An item set, and an item read, at an index.
+fn both(array: &Node, index: &Node) -> [Node; 2] {
+    let set_item = stmt(mutate(1, index.clone(), text(1)));
+    let read = vec![set(2, access(1, index.clone())), decl(3, None)];
+    [program(vec![array.clone(), set_item]), program([vec![array.clone()], read].concat())]
+}
+
+/// Each special number, each border and its neighbours as an index into arrays of 0 and 4 items; the
+/// numbers around 23 and 24 as an index into one of 24.
 fn indexes() -> Vec<Node> {
     let mut out = Vec::new();
-    for length in [0, 1, 4] {
-        for number in NUMBERS {
-            let array = || set_array(1, vec![num(5.0); length]);
-            out.push(program(vec![array(), stmt(mutate(1, bits(number), text(0)))]));
-            out.push(program(vec![array(), set(2, access(1, bits(number))), decl(3, None)]));
+    let empty = set_array(1, vec![]);
+    let four = set_array(1, vec![text(0); 4]);
+    let most = set_array(1, vec![text(0); 24]);
+    for number in index_numbers() {
+        out.extend(both(&empty, &bits(number)));
+        out.extend(both(&four, &bits(number)));
+        if (22.5..24.5).contains(&f64::from_bits(number)) {
+            out.extend(both(&most, &bits(number)));
         }
+    }
+    out
+}
+
+/// Indexes that arise by arithmetic or come from a name: whole numbers, fractions, negatives, zeros,
+/// infinities, NaN.
+fn computed_indexes() -> Vec<Node> {
+    let sums = [
+        (4, 1.0, 0.0),
+        (4, -1.0, 0.0),
+        (4, 0.0, 0.0),
+        (3, 1e308, 10.0),
+        (3, -1e308, 10.0),
+        (3, 0.0, -1.0),
+        (4, -1.0, f64::MAX),
+        (4, 4.0, 2.0),
+        (4, 5.0, 2.0),
+        (3, 0.1, 10.0),
+        (1, 0.1, 0.2),
+        (2, 1.0, 3.0),
+        (5, 7.0, 4.0),
+        (5, 7.0, 2.5),
+        (5, -4.0, 2.0),
+        (3, 4_294_967_296.0, 4_294_967_296.0),
+        (2, 18_446_744_073_709_551_616.0, 2048.0),
+        (1, 9_007_199_254_740_992.0, 1.0),
+    ];
+    let items = set_array(1, vec![text(0), yes(), text(2)]);
+    let mut out = Vec::new();
+    for (op, left, right) in sums {
+        out.extend(both(&items, &binary(op, num(left), num(right))));
+    }
+    for number in [2.5, -0.0, -1.0, 18_446_744_073_709_551_616.0, f64::NAN] {
+        let named =
+            |last: Vec<Node>| program([vec![set(4, num(number)), items.clone()], last].concat());
+        out.push(named(vec![set(2, access(1, name(4)))]));
+        out.push(named(vec![stmt(mutate(1, name(4), name(4))), set(2, name(1))]));
+        // in the body of a loop, whose own index stays whole
+        let pass = |body: Vec<Node>| named(vec![for_(2, 3, name(1), block(body))]);
+        out.push(pass(vec![set(2, name(4)), set(5, name(2))]));
+        out.push(pass(vec![set(2, name(4)), set(5, access(1, name(2)))]));
+        out.push(pass(vec![stmt(mutate(1, name(2), num(0.0))), stmt(assign(2, name(4)))]));
     }
     out
 }

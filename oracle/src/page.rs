@@ -7,6 +7,7 @@ use crate::lower::lower_file;
 use crate::names::{name_of, text_of};
 use crate::original::sifc_bytecode::sifv::SifVal;
 
+/// The stops by number, from 20 to 36.
 const STOPS: [&str; 17] = [
     "a name that is not set",
     "nothing to increment",
@@ -106,7 +107,10 @@ fn end_text(end: &End, machine: &Machine) -> String {
         End::Done => format!("done after {count} steps\n"),
         End::Spent => format!("not done after {count} steps\n"),
         End::Stopped { stop, line } => {
-            let words = STOPS[usize::from(stop.number) - 20];
+            let words = match stop.number {
+                38 => "a number that is no index",
+                number => STOPS[usize::from(number) - 20],
+            };
             format!("stopped after {count} steps at line {line}: {}, {words}\n", stop.number)
         }
     }

@@ -31,9 +31,9 @@ impl Record {
         Ok(Record { given, answer, sum })
     }
 
-    /// The bytes of a record without its checksum.
+    /// The bytes of a record: two lengths, what they tell, the checksum.
     pub fn length(&self) -> usize {
-        8 + self.given.len() + self.answer.len()
+        16 + self.given.len() + self.answer.len()
     }
 
     pub fn write(&self, out: &mut Vec<u8>) {

@@ -4,7 +4,8 @@
 use std::fs;
 
 use crate::byte_rows::{
-    calls_of, programs_of as buffers_of, records_of, reports_of, slots_of, states_of, written_of,
+    calls_of, indexes_of, programs_of as buffers_of, records_of, reports_of, slots_of, states_of,
+    written_of,
 };
 use crate::listing::{listing, state_of_file, STEPS};
 use crate::program::run_text;
@@ -20,7 +21,7 @@ pub fn check(crates: &str) -> Result<(), String> {
     let programs = programs_of(&read("engine/proofs/Programs.antt")?)?;
     let lowerings = lowerings_of(&read("compiler/proofs/Computed.antt")?)?;
     let readings = readings_of(&read("ast/proofs/Computed.antt")?)?;
-    // rows on bytes, a line each: every line that ends in a proof has to have been read
+    // rows on bytes and on numbers, a line each: every line that ends in a proof has to have been read
     let each_read = |name: &str, rows_of: fn(&str) -> Result<usize, String>| {
         let table = read(name)?;
         let (rows, read) = (table.matches("refl ∷\n").count(), rows_of(&table)?);
@@ -36,12 +37,14 @@ pub fn check(crates: &str) -> Result<(), String> {
     let slots = each_read("sifv/proofs/Rows.antt", slots_of)?;
     let states = each_read("vm/proofs/Rows.antt", states_of)?;
     let reports = each_read("report/proofs/Rows.antt", reports_of)?;
+    let indexes = each_read("numeric/proofs/Rows.antt", indexes_of)?;
     let calls = each_read("lower/proofs/Rows.antt", calls_of)?
         + each_read("boundary/proofs/Rows.antt", calls_of)?;
     println!(
         "rows: {files} files, {programs} programs, {lowerings} lowerings, {readings} readings, \
          {records} records, {buffers} program buffers, {slots} slots, {states} states, \
-         {reports} reports and {calls} calls of the computed tables, as by the original"
+         {reports} reports and {calls} calls of the computed tables, as by the original, \
+         a 38 by the driver's rule, and {indexes} indexes by that rule"
     );
     Ok(())
 }

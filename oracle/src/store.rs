@@ -13,7 +13,7 @@ use crate::program_bytes::Code;
 use crate::records::Record;
 
 const CASES_BYTES: usize = 1 << 20;
-const PROGRAMS_BYTES: usize = 1 << 18;
+const PROGRAMS_BYTES: usize = 5 << 16;
 /// A stored program has at most so many bytes.
 const PROGRAM_BYTES: usize = 6_000;
 const BUFFER_STEPS: u64 = 50;
@@ -24,10 +24,10 @@ const SEED: u64 = 2024;
 /// their listings have to hold.
 const KINDS: [(&str, usize, usize, usize, &str); 5] = [
     ("limits", 0, 0, 0, ""),
-    ("damaged", 500, 150, 40_000, ""),
-    ("other", 5000, 1_000, 140_000, "Call"),
+    ("damaged", 500, 158, 43_200, ""),
+    ("other", 5000, 1_000, 123_400, "Call"),
     ("values", 7, 3_000, 22_000, ""),
-    ("plain", 4000, 1_000, 110_000, "JmpCnd"),
+    ("plain", 4000, 1_000, 90_000, "JmpCnd"),
 ];
 
 /// Writes `cases.bin` and `programs.bin` into a folder; prints how many of each kind.
@@ -112,7 +112,7 @@ fn programs() -> Result<(Vec<u8>, usize), String> {
     for (_, program, _) in gen_buffers::programs() {
         all.push(given(BUFFER_STEPS, &program));
     }
-    for text in items("programs", SEED, 1100)? {
+    for text in items("programs", SEED, 1295)? {
         all.extend(given_of_text(&text)?);
     }
     let mut out = Vec::new();

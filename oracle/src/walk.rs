@@ -1,4 +1,5 @@
-//! The walk of document 01, with document 02, M-100: a plain script's meaning from its tree alone.
+//! The walk of document 01, with document 02, M-100 and M-103: a plain script's meaning from its tree
+//! alone.
 //!
 //! Nothing here lowers the tree or steps the machine. Every step of the machine has its place as
 //! one `step` of the walk, so that the walk can be cut off after any number of steps.
@@ -290,29 +291,27 @@ fn literal(node: &Node) -> Value {
     }
 }
 
-/// NaN and negatives give 0, a fraction is cut, 2^64 and above give 2^64 - 1.
+/// Whole numbers from 0 up to below 2^64 pass, and minus zero is 0. NaN, negatives, fractions,
+/// infinities and larger numbers stop the step.
 fn index_of(value: &Value) -> Result<u64, Stop> {
-    let Value::Num(n) = value else {
-        return Err(Stop::bare(27));
-    };
-    let top = 18_446_744_073_709_551_616.0;
-    Ok(if *n >= top {
-        u64::MAX
-    } else if *n >= 1.0 {
-        whole_part(*n)
-    } else {
-        0
-    })
+    match value {
+        Value::Num(n) => whole(*n).ok_or_else(|| Stop::bare(38)),
+        _ => Err(Stop::bare(27)),
+    }
 }
 
-/// The whole part of a number from 1 to below 2^64, from its bits.
-fn whole_part(n: f64) -> u64 {
-    let exponent = (n.to_bits() >> 52) as i64 - 1023;
-    let digits = (n.to_bits() & ((1 << 52) - 1)) | (1 << 52);
-    if exponent >= 52 {
-        digits << (exponent - 52)
-    } else {
-        digits >> (52 - exponent)
+/// The whole number that a number is, from its digits; the exponent of an infinity or a NaN is far
+/// above 11.
+fn whole(n: f64) -> Option<u64> {
+    match digits(n) {
+        (0, _) => Some(0),
+        _ if n.is_sign_negative() => None,
+        (digits, exponent @ 0..=11) => Some(digits << exponent),
+        (digits, exponent @ -52..=-1) => {
+            let fraction = -exponent as u32;
+            (digits.trailing_zeros() >= fraction).then_some(digits >> fraction)
+        }
+        _ => None,
     }
 }
 

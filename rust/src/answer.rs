@@ -91,7 +91,11 @@ impl fmt::Display for Refusal {
 
 impl Error for Refusal {}
 
-/// The error at which a run stopped, with its details (document 01, "Numbers given for the state").
+/// What is said of places; that they end below 2^64 is left out.
+pub(crate) const PLACES: &str = "places are whole numbers from 0 on";
+
+/// The error at which a run stopped, with its details (document 01, "Numbers given for the state"; 38:
+/// document 02, M-103).
 #[derive(Clone, Copy, Debug, PartialEq, Eq, Hash)]
 pub enum Stop {
     /// 20: a name that is not set.
@@ -120,7 +124,7 @@ pub enum Stop {
     IndexOutOfBounds {
         /// The array's name.
         name: Name,
-        /// The index, counted from 0.
+        /// The index, counted from 0; at most 18,446,744,073,709,549,568.
         index: u64,
         /// The array's length.
         length: u64,
@@ -135,10 +139,12 @@ pub enum Stop {
     StackFull,
     /// 36: a 17th key.
     TableFull,
+    /// 38: a number that is no index: a fraction, a negative, a NaN, an infinity, 2^64 or more.
+    NoIndex,
 }
 
 impl Stop {
-    /// Its number, 20 to 36.
+    /// Its number, 20 to 36, or 38.
     pub fn number(self) -> u8 {
         match self {
             Stop::InvalidName(_) => 20,
@@ -158,6 +164,7 @@ impl Stop {
             Stop::Nested => 34,
             Stop::StackFull => 35,
             Stop::TableFull => 36,
+            Stop::NoIndex => 38,
         }
     }
 
@@ -207,6 +214,7 @@ impl Stop {
                 "more than 24 values on the stack, or 24 calls in one another".into()
             }
             Stop::TableFull => "a 17th key in a table".into(),
+            Stop::NoIndex => format!("a number that is no index: {PLACES}"),
         }
     }
 
@@ -232,6 +240,7 @@ impl Stop {
             34 => Some(Stop::Nested),
             35 => Some(Stop::StackFull),
             36 => Some(Stop::TableFull),
+            38 => Some(Stop::NoIndex),
             _ => None,
         }
     }

@@ -9,7 +9,7 @@ use sif::check::{self, Accepted};
 use sif::page::{self, Layout};
 use sif::script::Fault;
 use sif::trace::{self, Window};
-use sif::{listing, parse, show, Answer};
+use sif::{listing, parse, show, Answer, Machine};
 
 use crate::arguments::Arguments;
 use crate::files::{self, output, Failure};
@@ -64,7 +64,7 @@ pub fn page(arguments: &Arguments) -> Result<u8, Failure> {
         drop(progress);
         let mut out = output();
         page::write_names(&mut out, &accepted.script, &machine, layout)?;
-        write_end(&mut out, accepted, answer, machine.steps())
+        write_end(&mut out, accepted, &machine, answer)
     })
 }
 
@@ -85,7 +85,7 @@ pub fn trace(arguments: &Arguments) -> Result<u8, Failure> {
         let tell = &mut |done| progress.tell("trace", done, window.steps, "steps");
         let answer = trace::trace(&mut out, &accepted.script, &mut machine, window, tell)?;
         drop(progress);
-        write_end(&mut out, accepted, answer, machine.steps())
+        write_end(&mut out, accepted, &machine, answer)
     })
 }
 
@@ -218,10 +218,10 @@ fn on_accepted(
 fn write_end(
     out: &mut dyn Write,
     accepted: &Accepted,
+    machine: &Machine,
     answer: Answer,
-    steps: u64,
 ) -> Result<u8, Failure> {
-    out.write_all(page::end_text(accepted, answer, steps).as_bytes())?;
+    out.write_all(page::end_text(accepted, machine, answer).as_bytes())?;
     out.flush()?;
     Ok(if answer == Answer::Done { GOOD } else { NOT_GOOD })
 }

@@ -83,8 +83,9 @@ fn constants_of_crate() -> BTreeMap<String, u64> {
 }
 
 /// Each stop, with details that a report could have.
-fn stops() -> [(&'static str, Stop); 17] {
+fn stops() -> [(&'static str, Stop); 18] {
     let name = Name::new(7).unwrap();
+    let index = 18_446_744_073_709_549_568;
     [
         ("INVALID_NAME", Stop::InvalidName(name)),
         ("INVALID_INCR", Stop::InvalidIncr),
@@ -97,12 +98,13 @@ fn stops() -> [(&'static str, Stop); 17] {
         ("NOT_AN_ARRAY", Stop::NotAnArray(name)),
         ("INVALID_FN_SYM", Stop::InvalidFnSym(name)),
         ("EMPTY_CALL_STACK", Stop::EmptyCallStack),
-        ("INDEX_OUT_OF_BOUNDS", Stop::IndexOutOfBounds { name, index: u64::MAX, length: 24 }),
+        ("INDEX_OUT_OF_BOUNDS", Stop::IndexOutOfBounds { name, index, length: 24 }),
         ("EMPTY_REGISTER", Stop::EmptyRegister),
         ("KEY_ABSENT", Stop::KeyAbsent),
         ("NESTED", Stop::Nested),
         ("STACK_FULL", Stop::StackFull),
         ("TABLE_FULL", Stop::TableFull),
+        ("NO_INDEX", Stop::NoIndex),
     ]
 }
 
@@ -127,10 +129,11 @@ fn reports() {
         let answer = Answer::Stopped { stop, line: -1 };
         assert_eq!(Report::decode(&bytes), Some(Report { answer, steps: 300 }));
     }
-    for wrong in [3, 255] {
+    for (answer, stop) in [(3, 0), (255, 0), (1, 0), (1, 19), (1, 37), (1, 39), (1, 255)] {
         let mut bytes = [0; Report::SIZE];
-        bytes[Report::ANSWER_AT] = wrong;
-        assert_eq!(Report::decode(&bytes), None);
+        bytes[Report::ANSWER_AT] = answer;
+        bytes[Report::STOP_AT] = stop;
+        assert_eq!(Report::decode(&bytes), None, "{answer} {stop}");
     }
 }
 

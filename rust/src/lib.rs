@@ -29,7 +29,7 @@
 //! let mut machine = accepted.program.start()?;
 //! let report = machine.run(100_000)?;
 //! assert_eq!(
-//!     sif::page::end_text(&accepted, report.answer, report.steps),
+//!     sif::page::end_text(&accepted, &machine, report.answer),
 //!     "stopped after 3 steps (bound 4) at line 4: index 2 in array cells of length 2\n    \
 //!      in line 2 of `sif show`: cells[2] = 5\n"
 //! );

@@ -56,18 +56,18 @@ pub fn write_names(
     Ok(())
 }
 
-/// The line that tells how a run ended; at an error also the line of the script's text.
-pub fn end_text(accepted: &Accepted, answer: Answer, steps: u64) -> String {
-    let steps = match steps {
+/// The line that tells how a machine's run ended; at an error also the line of the script's text.
+pub fn end_text(accepted: &Accepted, machine: &Machine, answer: Answer) -> String {
+    let steps = match machine.steps() {
         1 => "1 step".to_string(),
-        _ => format!("{steps} steps"),
+        steps => format!("{steps} steps"),
     };
     let bound = accepted.bound.map_or("no bound".into(), |bound| format!("bound {bound}"));
     match answer {
         Answer::Done => format!("done after {steps} ({bound})\n"),
         Answer::Spent => format!("not ended after {steps} ({bound})\n"),
         Answer::Stopped { stop, line } => {
-            let what = stop.words(|name| words::name(&accepted.script, name));
+            let what = words::stop(&accepted.script, machine, stop);
             let place = text_line(accepted, line).unwrap_or_default();
             format!("stopped after {steps} ({bound}) at line {line}: {what}\n{place}")
         }

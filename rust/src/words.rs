@@ -1,6 +1,8 @@
 //! Names and values as people write them, with a script's own texts.
 
+use crate::answer::{Stop, PLACES};
 use crate::decimal;
+use crate::engine::Machine;
 use crate::program::{Instruction, Operand};
 use crate::script::Script;
 use crate::show;
@@ -56,4 +58,36 @@ pub fn instruction(script: &Script, instruction: &Instruction) -> String {
     };
     let operands: String = instruction.operands.iter().map(operand).collect();
     format!("{}{operands}", instruction.operation)
+}
+
+/// What happened at a stop, as far as the stopped machine tells.
+pub fn stop(script: &Script, machine: &Machine, stop: Stop) -> String {
+    let told = match stop {
+        Stop::NoIndex => no_index(script, machine),
+        _ => None,
+    };
+    told.unwrap_or_else(|| stop.words(|number| name(script, number)))
+}
+
+/// The number that is no index, and the name of the array. The stopped step changed nothing: the
+/// machine is still at its instruction, whose register holds the number. None where the machine is at
+/// no Ldav or Upda with such a number.
+fn no_index(script: &Script, machine: &Machine) -> Option<String> {
+    let instruction = machine.program().instruction(machine.position())?;
+    let (array, register) = match (instruction.operation, instruction.operands.as_slice()) {
+        ("Ldav" | "Upda", [Operand::Name(array), Operand::Register(index), _]) => (*array, *index),
+        _ => return None,
+    };
+    let Some(Value::Single(Single::Number(index))) = machine.register(register) else {
+        return None;
+    };
+    if index >= 0.0 && index < 18_446_744_073_709_551_616.0 && index.trunc() == index {
+        return None;
+    }
+    let kind = match machine.name(array) {
+        Some(Value::Array(_)) => "array ",
+        _ => "",
+    };
+    let (index, array) = (decimal::write(index), name(script, array));
+    Some(format!("the index {index} is no place in {kind}{array}: {PLACES}"))
 }

@@ -47,7 +47,7 @@ fn print(accepted: &Accepted) {
         let layout = Layout { dots: width == 1, width };
         page::write_names(&mut out, script, &machine, layout).unwrap();
     }
-    assert!(!page::end_text(accepted, answer, machine.steps()).is_empty());
+    assert!(!page::end_text(accepted, &machine, answer).is_empty());
     assert!(out.is_ascii() || String::from_utf8(out).is_ok());
 }
 

@@ -140,15 +140,18 @@ fn exit_codes() {
         (&["check", "loop.tree", "worksheet.tree"], 0),
         (&["check", "loop.tree", "README.md"], 1),
         (&["list", "past_the_end.tree"], 0),
+        (&["list", "no_index.tree"], 0),
         (&["list", "README.md"], 1),
         (&["page", "loop.tree"], 0),
         (&["page", "past_the_end.tree"], 1),
+        (&["page", "no_index.tree"], 1),
         (&["page", "long.tree"], 1),
         (&["page", "--steps", "26", "loop.tree"], 1),
         (&["page", "--steps", "27", "loop.tree"], 0),
         (&["page", "README.md"], 1),
         (&["trace", "loop.tree"], 0),
         (&["trace", "past_the_end.tree"], 1),
+        (&["trace", "no_index.tree"], 1),
         (&["trace", "README.md"], 1),
         (&["show", "loop.tree"], 0),
     ];
@@ -163,7 +166,7 @@ fn exit_codes() {
 
 #[test]
 fn listings() {
-    for name in ["loop", "worksheet", "past_the_end", "long"] {
+    for name in ["loop", "worksheet", "past_the_end", "no_index", "long"] {
         let expected = fs::read_to_string(root().join(format!("examples/{name}.listing"))).unwrap();
         assert_eq!(ended(&sif(&["list", &format!("{name}.tree")])).1, expected, "{name}");
     }
@@ -328,6 +331,91 @@ fn trace_of_a_stop() {
         "    in line 2 of `sif show`: x\n",
     ];
     assert_eq!(screen("stop.tree", &["trace"], text), (1, expected.concat(), String::new()));
+}
+
+/// Numbers that are no index, with the array's name: at a read and at a setting, of a name that is
+/// unset or holds no array, from arithmetic. Minus zero is an index.
+#[test]
+fn page_at_no_index() {
+    let cells = "var cells = [1, 2, 3]\n";
+    let places = "places are whole numbers from 0 on";
+    let rows = [
+        (
+            "x = cells[2.5]",
+            "stopped after 2 steps (bound 4) at line 3: the index 2.5 is no place in array cells",
+            "x = cells[2.5]",
+        ),
+        (
+            "cells[-1] = 5",
+            "stopped after 3 steps (bound 4) at line 4: the index -1 is no place in array cells",
+            "cells[-1] = 5",
+        ),
+        (
+            "x = cells[18446744073709551616]",
+            "stopped after 2 steps (bound 4) at line 3: the index 1.8446744073709552e19 is no \
+             place in array cells",
+            "x = cells[1.8446744073709552e19]",
+        ),
+        (
+            "x = cells[-1 / 0]",
+            "stopped after 4 steps (bound 6) at line 5: the index -inf is no place in array cells",
+            "x = cells[-1 / 0]",
+        ),
+        (
+            "cells[0 / 0] = 5",
+            "stopped after 5 steps (bound 6) at line 6: the index nan is no place in array cells",
+            "cells[0 / 0] = 5",
+        ),
+        (
+            "x = `a b`[2.5]",
+            "stopped after 2 steps (bound 4) at line 3: the index 2.5 is no place in `a b`",
+            "x = `a b`[2.5]",
+        ),
+    ];
+    for (number, (line, end, shown)) in (0..).zip(rows) {
+        let name = format!("no_index_{number}.tree");
+        let expected =
+            format!("cells = [1, 2, 3]\n{end}: {places}\n    in line 2 of `sif show`: {shown}\n");
+        let got = screen(&name, &["page"], &format!("{cells}{line}\n"));
+        assert_eq!(got, (1, expected, String::new()));
+    }
+    let unset = format!(
+        "stopped after 1 step (bound 3) at line 2: the index 2.5 is no place in cells: {places}\n\
+         \x20   in line 1 of `sif show`: x = cells[2.5]\n"
+    );
+    let got = screen("no_index_unset.tree", &["page"], "x = cells[2.5]\n");
+    assert_eq!(got, (1, unset, String::new()));
+    let table = format!(
+        "t = {{}}\nstopped after 3 steps (bound 4) at line 4: the index 0.5 is no place in t: \
+         {places}\n    in line 2 of `sif show`: t[0.5] = 1\n"
+    );
+    let got = screen("no_index_table.tree", &["page"], "var t = {}\nt[0.5] = 1\n");
+    assert_eq!(got, (1, table, String::new()));
+    let passes = "cells = [1, 2, 3]\nx = 1\ndone after 4 steps (bound 4)\n";
+    let got = screen("minus_zero.tree", &["page"], &format!("{cells}x = cells[-0]\n"));
+    assert_eq!(got, (0, passes.into(), String::new()));
+}
+
+/// The same by `trace` and `list`; the listing has the number 38 and no details.
+#[test]
+fn trace_and_listing_at_no_index() {
+    let text = "var cells = [1, 2, 3]\nx = cells[2.5]\n";
+    let expected = [
+        "     1    0  Stc [1, 2, 3] cells           cells = [1, 2, 3]\n",
+        "     2    1  Ldc r0 2.5                    r0 = 2.5\n",
+        "     3    2  Ldav cells r0 r1              stops\n",
+        "stopped after 2 steps (bound 4) at line 3: the index 2.5 is no place in array cells: ",
+        "places are whole numbers from 0 on\n",
+        "    in line 2 of `sif show`: x = cells[2.5]\n",
+    ];
+    let got = screen("trace_no_index.tree", &["trace"], text);
+    assert_eq!(got, (1, expected.concat(), String::new()));
+    let array = "Arr:[Num:3ff0000000000000,Num:4000000000000000,Num:4008000000000000]";
+    let expected = format!(
+        "start 0\nop 0 0 Stc {array} 1\nop 1 0 Ldc 0 Num:4004000000000000\nop 2 0 Ldav 1 0 1\n\
+         op 3 0 Str 1 2\nlabel 0 0\nbound 4\nend stopped 2 38 3\nheld 1\nname 1 {array}\n"
+    );
+    assert_eq!(screen("list_no_index.tree", &["list"], text), (0, expected, String::new()));
 }
 
 #[test]

@@ -225,3 +225,20 @@ fn odd_names() {
     assert!(matches!(&members["error"], Json::String(what) if what.starts_with("no \"file: ")));
     assert_eq!(members.len(), 2);
 }
+
+/// An index that is none is no fault of the file: the page stops, the file is accepted.
+#[test]
+fn no_index() {
+    let file =
+        sif::parse::parse("var cells = [1, 2, 3]\nx = cells[2.5]\n").unwrap().script.to_bytes();
+    fs::write(folder().join("no_index.tree"), file).unwrap();
+    let wanted = object(&[
+        ("file", string("no_index.tree")),
+        ("accepted", Json::Bool(true)),
+        ("nodes", Json::Number(10)),
+        ("texts", Json::Number(3)),
+        ("instructions", Json::Number(4)),
+        ("bound", Json::Number(4)),
+    ]);
+    assert_eq!(lines(&["no_index.tree".into()]), (vec![wanted], Some(0)));
+}

@@ -1,8 +1,10 @@
 //! The pages of examples/pages: their texts, tree files and screens, and what the README says of the
 //! language.
 
+use sif::check::{check, Accepted};
+use sif::page::end_text;
 use sif::parse::parse;
-use sif::{Answer, Program, Single, Stop, Value};
+use sif::{Answer, Machine, Program, Single, Stop, Value};
 use std::collections::BTreeMap;
 use std::path::PathBuf;
 use std::process::{Command, Output};
@@ -159,6 +161,8 @@ fn what_surprises() {
 fn stops_in_words() {
     let kind = "a value of the wrong kind for an operator, a condition or an index";
     let full = "more than 24 values on the stack, or 24 calls in one another";
+    let largest = "index 18446744073709549568 in array a of length 1";
+    let no_index = "a number that is no index: places are whole numbers from 0 on";
     let rows = [
         ("x", 20, "name x is not set"),
         ("`a b` + 1", 20, "name `a b` is not set"),
@@ -171,7 +175,8 @@ fn stops_in_words() {
         ("f()", 29, "function f is not declared"),
         ("return", 30, "a return outside a call"),
         ("a = [1]\na[1] = 2", 31, "index 1 in array a of length 1"),
-        ("a = [1]\nx = a[inf]", 31, "index 18446744073709551615 in array a of length 1"),
+        ("a = [1]\nx = a[18446744073709549568]", 31, largest),
+        ("a = [1]\nx = a[18446744073709551616]", 38, no_index),
         ("f(true)", 32, "an empty register pushed or put into a table"),
         ("a = [1]\nt = {k: a}", 34, "an array or table put inside another"),
         ("fn f():\n    return f()\nf()", 35, full),
@@ -181,5 +186,101 @@ fn stops_in_words() {
         let stop = stop(text);
         let named = stop.words(|name| sif::show::name(script.text(name.number())));
         assert_eq!((stop.number(), named.as_str()), (number, words), "{text}");
+    }
+}
+
+/// Whole numbers from 0 to below 2^64 are indexes, minus zero is 0, and nothing else is one.
+#[test]
+fn exact_indexes() {
+    let cells = "cells = [1, 2, 3]\n";
+    for (index, item) in [("0", 1.0), ("-0", 1.0), ("2", 3.0), ("5 / 2.5", 3.0)] {
+        let (names, answer) = run(&format!("{cells}x = cells[{index}]"));
+        assert_eq!(answer, Answer::Done, "{index}");
+        assert_eq!(names["x"], Value::Single(Single::Number(item)), "{index}");
+        assert_eq!(run(&format!("{cells}cells[{index}] = 7")).1, Answer::Done, "{index}");
+    }
+    let past: [(&str, u64); 4] =
+        [("3", 3), ("1e15", 1_000_000_000_000_000), ("9223372036854775808", 1 << 63), LARGEST];
+    for (index, number) in past {
+        for text in [format!("x = cells[{index}]"), format!("cells[{index}] = 7")] {
+            let stop = stop(&format!("{cells}{text}"));
+            assert_eq!((stop.number(), &stop.details()[1..]), (31, &[number, 3][..]), "{text}");
+        }
+    }
+    let none = ["2.5", "0.5", "-0.5", "5e-324", "-1", "-1e300", "18446744073709551616", "1e300"];
+    for index in none.into_iter().chain(["1 / 0", "-1 / 0", "0 / 0"]) {
+        for text in [format!("x = cells[{index}]"), format!("cells[{index}] = 7")] {
+            let (names, answer) = run(&format!("{cells}{text}"));
+            assert!(matches!(answer, Answer::Stopped { stop: Stop::NoIndex, .. }), "{text}");
+            assert_eq!(names.len(), 1, "{text}");
+            assert_eq!(names["cells"], run(cells).0["cells"], "{text}");
+        }
+    }
+}
+
+/// The largest number below 2^64.
+const LARGEST: (&str, u64) = ("18446744073709549568", 18_446_744_073_709_549_568);
+
+/// 38 comes right after every 27 of its step: before 20, 28, 31 and 34.
+#[test]
+fn the_order_of_38() {
+    let empty = "if 1 == 2:\n    y = 5 + 6\n";
+    let rows = [
+        ("x = cells[2.5]", 38),
+        ("x = cells[2]", 20),
+        ("cells[2.5] = 1", 38),
+        ("cells[2] = 1", 20),
+        ("cells = 1\nx = cells[2.5]", 38),
+        ("cells = 1\nx = cells[2]", 28),
+        ("cells = {}\ncells[-1] = 1", 38),
+        ("cells = {}\ncells[1] = 1", 28),
+        ("cells = [1]\ncells[1] = cells", 31),
+        ("cells = [1]\ncells[0] = cells", 34),
+        ("cells = [1]\ncells[0.5] = cells", 38),
+        ("cells = [1]\ncells[\"a\"] = cells", 27),
+        // The value's register is empty.
+        (&format!("{empty}cells[2.5] = true"), 27),
+        (&format!("{empty}cells[2] = true"), 27),
+    ];
+    for (text, number) in rows {
+        assert_eq!(stop(text).number(), number, "{text}");
+    }
+}
+
+fn accepted(text: &str) -> Accepted {
+    check(&parse(text).unwrap().script.to_bytes()).unwrap()
+}
+
+/// A loop's index as well: one that a state holds, since no plain script makes such a one.
+#[test]
+fn a_loop_at_no_index() {
+    let accepted = accepted("var cells = [1, 2]\nfor i, v in cells:\n    s = v\n");
+    // An array, i, the length, i into register 0; then the item is read.
+    let mut machine = accepted.program.start().unwrap();
+    machine.run(4).unwrap();
+    let mut state = machine.bytes().to_vec();
+    state[8..16].copy_from_slice(&1.5f64.to_be_bytes());
+    let mut machine = Machine::from_bytes(&accepted.program, &state).unwrap();
+    let answer = machine.run(100).unwrap().answer;
+    assert_eq!(answer, Answer::Stopped { stop: Stop::NoIndex, line: 5 });
+    assert_eq!(
+        end_text(&accepted, &machine, answer),
+        "stopped after 4 steps (bound 19) at line 5: the index 1.5 is no place in array cells: \
+         places are whole numbers from 0 on\n    in line 2 of `sif show`: for i, v in cells:\n"
+    );
+}
+
+/// An answer that does not fit the machine is told without the number.
+#[test]
+fn an_answer_of_another_machine() {
+    let answer = Answer::Stopped { stop: Stop::NoIndex, line: 9 };
+    let words = "a number that is no index: places are whole numbers from 0 on";
+    // At a store, at the item with an index, with a text for one, at the end.
+    for (index, steps) in [("2", 0), ("2", 2), ("\"a\"", 2), ("2", 4)] {
+        let accepted = accepted(&format!("var cells = [1, 2, 3]\nx = cells[{index}]\n"));
+        let mut machine = accepted.program.start().unwrap();
+        machine.run(steps).unwrap();
+        let expected = format!("stopped after {steps} steps (bound 4) at line 9: {words}\n");
+        assert_eq!(end_text(&accepted, &machine, answer), expected, "{index}");
     }
 }

@@ -22,7 +22,7 @@ fn listings() {
 #[test]
 fn programs() {
     let programs = records("programs.bin");
-    assert_eq!(programs.len(), 1314);
+    assert_eq!(programs.len(), 1568);
     for (number, (given, answer)) in programs.iter().enumerate() {
         let (steps, bytes) = program_of(given);
         assert_eq!(whole_machine(&bytes, steps), *answer, "stored program {number}");

@@ -1,4 +1,5 @@
--- Programs with operations, stops and jumps that no tree yields: code start, steps given, instructions, and what the original leaves behind.
+-- Programs with operations, stops and jumps that no tree yields, and with orders of stops at Ldav and Upda: code start, steps given, instructions, and what the
+-- original leaves behind; a 38 is the oracle's own rule.
 use mathlib.Core.Bool.{true, false}
 use mathlib.Core.List.{List, [], _∷_}
 use lib.Dec.{T}
@@ -161,6 +162,62 @@ programs =
     instr 0 (Upda 1 0 1) ∷
     [])
     "end stopped 1 27 2\nheld 0\nreg 0 Num:4000000000000000\nstack\ncalls\nposition 1\ncount 1\n" ∷
+    -- 38 before 20: Ldav with 2.5 of an unset name
+    programRow 0 9 (
+    instr 0 (Ldc 0 (One (Num (ofBits binary64 0x4004000000000000)))) ∷
+    instr 0 (Ldav 1 0 1) ∷
+    [])
+    "end stopped 1 38 2\nheld 0\nreg 0 Num:4004000000000000\nstack\ncalls\nposition 1\ncount 1\n" ∷
+    -- 38 before 28: Ldav with 2.5 of a number's name
+    programRow 0 9 (
+    instr 0 (Stc (One (Num (ofBits binary64 0x3ff0000000000000))) 1) ∷
+    instr 0 (Ldc 0 (One (Num (ofBits binary64 0x4004000000000000)))) ∷
+    instr 0 (Ldav 1 0 1) ∷
+    [])
+    "end stopped 2 38 3\nheld 1\nname 1 Num:3ff0000000000000\nreg 0 Num:4004000000000000\nstack\ncalls\nposition 2\ncount 2\n" ∷
+    -- 27 before 38 at Upda: 2.5 and an empty value register
+    programRow 0 9 (
+    instr 0 (Stc (Arr ((Num (ofBits binary64 0x3ff0000000000000)) ∷ (Num (ofBits binary64 0x4000000000000000)) ∷ [])) 1) ∷
+    instr 0 (Ldc 0 (One (Num (ofBits binary64 0x4004000000000000)))) ∷
+    instr 0 (Upda 1 0 1) ∷
+    [])
+    "end stopped 2 27 3\nheld 1\nname 1 Arr:[Num:3ff0000000000000,Num:4000000000000000]\nreg 0 Num:4004000000000000\nstack\ncalls\nposition 2\ncount 2\n" ∷
+    -- 38 before 20: Upda with 2.5, a value, an unset name
+    programRow 0 9 (
+    instr 0 (Ldc 0 (One (Num (ofBits binary64 0x4004000000000000)))) ∷
+    instr 0 (Ldc 1 (One Null)) ∷
+    instr 0 (Upda 1 0 1) ∷
+    [])
+    "end stopped 2 38 3\nheld 0\nreg 0 Num:4004000000000000\nreg 1 Null\nstack\ncalls\nposition 2\ncount 2\n" ∷
+    -- 38 before 28: Upda with 2.5 of a number's name
+    programRow 0 9 (
+    instr 0 (Stc (One (Num (ofBits binary64 0x3ff0000000000000))) 1) ∷
+    instr 0 (Ldc 0 (One (Num (ofBits binary64 0x4004000000000000)))) ∷
+    instr 0 (Ldc 1 (One Null)) ∷
+    instr 0 (Upda 1 0 1) ∷
+    [])
+    "end stopped 3 38 4\nheld 1\nname 1 Num:3ff0000000000000\nreg 0 Num:4004000000000000\nreg 1 Null\nstack\ncalls\nposition 3\ncount 3\n" ∷
+    -- 38 before 34: Upda with 0.5 and a table as value
+    programRow 0 9 (
+    instr 0 (Stc (Arr ((Num (ofBits binary64 0x3ff0000000000000)) ∷ (Num (ofBits binary64 0x4000000000000000)) ∷ [])) 1) ∷
+    instr 0 (Ldc 0 (One (Num (ofBits binary64 0x3fe0000000000000)))) ∷
+    instr 0 (Ldc 1 (Tab [])) ∷
+    instr 0 (Upda 1 0 1) ∷
+    [])
+    "end stopped 3 38 4\nheld 1\nname 1 Arr:[Num:3ff0000000000000,Num:4000000000000000]\nreg 0 Num:3fe0000000000000\nreg 1 Tab:[]\nstack\ncalls\nposition 3\ncount 3\n" ∷
+    -- 27: Ldav with an empty index register
+    programRow 0 9 (
+    instr 0 (Stc (Arr ((Num (ofBits binary64 0x3ff0000000000000)) ∷ (Num (ofBits binary64 0x4000000000000000)) ∷ [])) 1) ∷
+    instr 0 (Ldav 1 0 1) ∷
+    [])
+    "end stopped 1 27 2\nheld 1\nname 1 Arr:[Num:3ff0000000000000,Num:4000000000000000]\nstack\ncalls\nposition 1\ncount 1\n" ∷
+    -- 27: Upda with a text as index and an empty value register
+    programRow 0 9 (
+    instr 0 (Stc (Arr ((Num (ofBits binary64 0x3ff0000000000000)) ∷ (Num (ofBits binary64 0x4000000000000000)) ∷ [])) 1) ∷
+    instr 0 (Ldc 0 (One (Text 1))) ∷
+    instr 0 (Upda 1 0 1) ∷
+    [])
+    "end stopped 2 27 3\nheld 1\nname 1 Arr:[Num:3ff0000000000000,Num:4000000000000000]\nreg 0 Str:1\nstack\ncalls\nposition 2\ncount 2\n" ∷
     -- 31 comes before 34 at Upda
     programRow 0 9 (
     instr 0 (Stc (Arr ([])) 1) ∷

@@ -15,14 +15,16 @@ ghost use Rattle.sifv.specs.Slot.{singleOf, encodeSlot, decodeSlot};
 ghost use Rattle.sifv.specs.inner.StoredForm.{storedOf};
 ghost use Rattle.vm.specs.RuntimeErr as Rule;
 ghost use Rattle.vm.specs.Operation as Operation;
+ghost use Rattle.vm.specs.Operation.{itemIn};
 ghost use Rattle.vm.specs.Machine as Machine;
 ghost use Rattle.opc.specs.declared.UnOpKind.the-variants.{Lneg, Nneg};
 ghost use Rattle.opc.specs.inner.Shows.{SingleIn, ShowsLiteral, Entered, entryOf};
 ghost use Rattle.tables.specs.Tables.{Program, labelAt};
-ghost use Rattle.execute.specs.inner.View.{given, binModel, unModel, poolOf, arrayAt, literalIn, InPool, regsOf, namesOf, view, onLoc, ReadsSingle, Loaded, Wrote, Named, steppedOf, Stepped, Neat, Canon, Holds, someOf, itemIn, updateOf};
+ghost use Rattle.execute.specs.inner.View.{given, binModel, unModel, poolOf, arrayAt, literalIn, InPool, regsOf, namesOf, view, onLoc, ReadsSingle, Loaded, Wrote, Named, steppedOf, Stepped, Neat, Canon, Holds, someOf, updateOf};
 ghost use Rattle.sifv.specs.inner.Forms.{Formed};
 ghost use Rattle.execute.specs.inner.ProgramView.{programIn, ProgramReady, jmpModel, jumpedOf, takenOf};
 ghost use Rattle.opc.specs.inner.Fetch.{recordAt};
+use numeric::Index;
 use opc::BinOpKind;
 use opc::JmpOpKind;
 use opc::Op;
@@ -244,6 +246,17 @@ fn keys_full() -> RuntimeErr
 {
     RuntimeErr {
         number: 36,
+        a: 0,
+        b: 0,
+        c: 0,
+    }
+}
+
+fn no_index() -> RuntimeErr
+    ensures { λ r. ⌜ r ≡ given Rule.NoIndex ⌝ }
+{
+    RuntimeErr {
+        number: 38,
         a: 0,
         b: 0,
         c: 0,
@@ -655,7 +668,10 @@ fn loadarrv(state: &[u8], name: usize, idx: usize) -> Got
     if sifv::kind_at(state, at) != 1 {
         return Got::Err(ty_mismatch());
     }
-    item(state, name, numeric::index_of(sifv::number_at(state, at)))
+    match numeric::index_of(sifv::number_at(state, at)) {
+        Index::At(i) => item(state, name, i),
+        Index::None => Got::Err(no_index()),
+    }
 }
 
 fn update(state: &mut [u8], name: usize, i: u64, val: usize) -> Did
@@ -690,8 +706,10 @@ fn newarrv(state: &mut [u8], name: usize, idx: usize, val: usize) -> Did
     if sifv::kind_at(state, reg(val)) == 0 {
         return Did::Err(ty_mismatch());
     }
-    let i = numeric::index_of(sifv::number_at(state, at));
-    update(state, name, i, val)
+    match numeric::index_of(sifv::number_at(state, at)) {
+        Index::At(i) => update(state, name, i, val),
+        Index::None => Did::Err(no_index()),
+    }
 }
 
 // ---- stacks and functions

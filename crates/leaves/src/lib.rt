@@ -6,13 +6,29 @@ ghost use Rattle.ast.specs.File.{readTree};
 ghost use Rattle.ast.specs.inner.Answer.{answerOf};
 ghost use Rattle.ast.specs.inner.Under.{plainOf};
 ghost use Rattle.numeric.specs.Index.{indexOf};
+ghost use Rattle.numeric.specs.inner.OrMax.{orMax, hasIndex};
 ghost use Rattle.numeric.specs.inner.Patterns.{bitsOf};
+use numeric::Index;
 
 #[no_mangle]
-pub extern "C" fn leaf_index_of(x: f64) -> u64
-    ensures { λ r. ⌜ r ≡ indexOf x ⌝ }
+pub extern "C" fn leaf_has_index(x: f64) -> bool
+    ensures { λ r. ⌜ r ≡ hasIndex (indexOf x) ⌝ }
 {
-    numeric::index_of(x)
+    match numeric::index_of(x) {
+        Index::At(n) => true,
+        Index::None => false,
+    }
+}
+
+// 2^64 - 1 where there is none.
+#[no_mangle]
+pub extern "C" fn leaf_index_of(x: f64) -> u64
+    ensures { λ r. ⌜ r ≡ orMax (indexOf x) ⌝ }
+{
+    match numeric::index_of(x) {
+        Index::At(n) => n,
+        Index::None => 18446744073709551615,
+    }
 }
 
 #[no_mangle]

@@ -6,7 +6,8 @@ ghost use lib.Ieee.{binary64};
 ghost use Rattle.numeric.specs.inner.Fields.{leading, infinity, significand, exponent, units};
 ghost use Rattle.numeric.specs.inner.Reciprocal.{Reciprocal};
 ghost use Rattle.numeric.specs.Remainder as Rule;
-ghost use Rattle.numeric.specs.Index.{indexOf};
+ghost use Rattle.numeric.specs.Index.{indexOf, indexTold};
+ghost use Rattle.numeric.specs.inner.OrMax.{orMax};
 ghost use Rattle.numeric.specs.inner.Patterns.{bitsOf};
 
 // The weights of a pattern's leading digit and of its sign, and the pattern of an infinity.
@@ -21,31 +22,58 @@ const NAN: u64 = 0x7ff8_0000_0000_0000;
 // 2^27: a factor is cut into digits below and above it.
 const HALF: u64 = 134217728;
 
-// The index from a number: a NaN and a negative number give 0, a fraction is cut, and 2^64 and
-// above give 2^64 - 1.
-fn cut(x: f64) -> u64
-    ensures { λ r. ⌜ r ≡ indexOf x ⌝ }
+// No number has this index.
+const NO_INDEX: u64 = 18446744073709551615;
+
+// The index from a number, or `NO_INDEX`. Below 2^53 a number is whole where cutting its fraction
+// changes nothing; from there on every number is. The end is found by comparing: converted back,
+// 2^64 - 1 would be 2^64.
+fn exact(x: f64) -> u64
+    ensures { λ r. ⌜ r ≡ orMax (indexOf x) ⌝ }
 {
     if x > -1.0 {
+        if x < 9007199254740992.0 {
+            let whole = std::num::truncating_f64_to_u64(x);
+            if whole as f64 == x {
+                return whole;
+            }
+            return NO_INDEX;
+        }
         if x < 18446744073709551616.0 {
             return std::num::truncating_f64_to_u64(x);
         }
-        return 18446744073709551615;
+        return NO_INDEX;
     }
-    0
+    NO_INDEX
 }
 
 // The same. A whole number below 2^32 stands in the last digits of its sum with 2^52, and most
-// indices are such. The 0 is added for the compiler: x itself is then not taken apart, and is
+// indexes are such. The 0 is added for the compiler: x itself is then not taken apart, and is
 // loaded as one.
-pub fn index_of(x: f64) -> u64
-    ensures { λ r. ⌜ r ≡ indexOf x ⌝ }
+pub fn index_or_max(x: f64) -> u64
+    ensures { λ r. ⌜ r ≡ orMax (indexOf x) ⌝ }
 {
     let n = bits_of(x + 4503599627370496.0) % 4294967296;
     if n as f64 == x {
         return n;
     }
-    cut(x + 0.0)
+    exact(x + 0.0)
+}
+
+// The index from a number: a whole number from 0 up to below 2^64, or none.
+pub enum Index {
+    At(u64),
+    None,
+}
+
+pub fn index_of(x: f64) -> Index
+    ensures { λ r. ⌜ r ≡ indexTold (indexOf x) ⌝ }
+{
+    let n = index_or_max(x);
+    if n == NO_INDEX {
+        return Index::None;
+    }
+    Index::At(n)
 }
 
 // The bit pattern of a number, with one pattern for every NaN. That the

@@ -6,7 +6,7 @@ use engine::Last;
 // The steps that a file's program is given.
 const STEPS: u64 = 100000;
 
-// The places of the counts: 0 done, 1 to 10 refused, 11 spent, 20 to 36 stopped; then records, steps, names held, runs in portions and checksums that agree.
+// The places of the counts: 0 done, 1 to 10 refused, 11 spent, 20 to 36 and 38 stopped; then records, steps, names held, runs in portions and checksums that agree.
 const RECORDS: usize = 40;
 
 const TAKEN: usize = 41;
@@ -157,7 +157,7 @@ fn count_if(counts: &mut [u64], at: usize, held: bool) {
     }
 }
 
-// Counts what a run left; `sum` is the checksum so far, `stored` that of the original's answers.
+// Counts what a run left; `sum` is the checksum so far, `stored` the one that the record ends with.
 fn count_run(
     program: &[u8],
     steps: u64,
@@ -390,7 +390,7 @@ fn say(what: &[u8], counts: &[u64]) {
     line(b"steps", counts, TAKEN);
     line(b"names held", counts, HELD);
     line(b"in portions as in one run", counts, PORTIONS);
-    line(b"every byte as by the original", counts, STORED);
+    line(b"every byte as stored", counts, STORED);
 }
 
 fn all(path: &[u8], programs: bool, what: &[u8]) {

@@ -1,4 +1,4 @@
--- Reports, computed: done, spent, every stop with its number and details (document 01, "Numbers given for the state"), lines above zero, at zero and below ("a
+-- Reports, computed: done, spent, every stop with its number and details (document 01, "Numbers given for the state"; 38: document 02, M-103), lines above zero, at zero and below ("a
 -- signed number, also below zero"). A row has the code's start, the position, the steps of the run, its answer, and the report's 48 bytes as one number
 -- (docs/FORMATS.md, "Report of a run"); oracle/ compares every row with its own report.
 use Prim.Native.Nat.{ℕ}
@@ -7,7 +7,7 @@ use mathlib.Core.List.{List, [], _∷_}
 use mathlib.Core.Option.{none}
 use Rattle.lent.specs.Bytes.{beBytes}
 use Rattle.tables.specs.Tables.{Program}
-use Rattle.vm.specs.RuntimeErr.{InvalidName, InvalidIncr, InvalidIncrTy, InvalidDecr, InvalidDecrTy, InvalidJump, RegNoContents, TyMismatch, NotAnArray, InvalidFnSym, EmptyCallStack, IndexOutOfBounds, EmptyRegister, KeyAbsent, NotSingle, StackFull, KeysFull}
+use Rattle.vm.specs.RuntimeErr.{InvalidName, InvalidIncr, InvalidIncrTy, InvalidDecr, InvalidDecrTy, InvalidJump, RegNoContents, TyMismatch, NotAnArray, InvalidFnSym, EmptyCallStack, IndexOutOfBounds, EmptyRegister, KeyAbsent, NotSingle, StackFull, KeysFull, NoIndex}
 use Rattle.vm.specs.Machine.{State, Answer, Done, Stopped, Spent}
 use Rattle.report.specs.Report.{report}
 
@@ -39,12 +39,13 @@ rows =
     row 2 6 6 (Stopped (NotAnArray 7)) 0x011c00000000000000000000000000050000000000000007000000000000000000000000000000000000000000000006 refl ∷
     row 2 6 6 (Stopped (InvalidFnSym 6)) 0x011d00000000000000000000000000050000000000000006000000000000000000000000000000000000000000000006 refl ∷
     row 2 6 6 (Stopped EmptyCallStack) 0x011e00000000000000000000000000050000000000000000000000000000000000000000000000000000000000000006 refl ∷
-    row 2 6 6 (Stopped (IndexOutOfBounds 5 18446744073709551615 24)) 0x011f00000000000000000000000000050000000000000005ffffffffffffffff00000000000000180000000000000006 refl ∷
+    row 2 6 6 (Stopped (IndexOutOfBounds 5 18446744073709549568 24)) 0x011f00000000000000000000000000050000000000000005fffffffffffff80000000000000000180000000000000006 refl ∷
     row 2 6 6 (Stopped EmptyRegister) 0x012000000000000000000000000000050000000000000000000000000000000000000000000000000000000000000006 refl ∷
     row 2 6 6 (Stopped KeyAbsent) 0x012100000000000000000000000000050000000000000000000000000000000000000000000000000000000000000006 refl ∷
     row 2 6 6 (Stopped NotSingle) 0x012200000000000000000000000000050000000000000000000000000000000000000000000000000000000000000006 refl ∷
     row 2 6 6 (Stopped StackFull) 0x012300000000000000000000000000050000000000000000000000000000000000000000000000000000000000000006 refl ∷
     row 2 6 6 (Stopped KeysFull) 0x012400000000000000000000000000050000000000000000000000000000000000000000000000000000000000000006 refl ∷
+    row 2 6 6 (Stopped NoIndex) 0x012600000000000000000000000000050000000000000000000000000000000000000000000000000000000000000006 refl ∷
     -- 31 on line 1, with index and length 0
     row 0 0 0 (Stopped (IndexOutOfBounds 1 0 0)) 0x011f00000000000000000000000000010000000000000001000000000000000000000000000000000000000000000000 refl ∷
     -- lines 1,024, 0, -1 and -1,023

@@ -7,10 +7,10 @@ use mathlib.Core.List.{List, [], _∷_}
 use mathlib.Core.Option.{Option, none, some}
 use lib.Ieee.{eq, ofInt, ofBits, toBits, binary64}
 use Rattle.sifv.specs.Value.{Value, One, Arr, Tab, Num, Str, Bl, Null}
-use Rattle.ast.specs.Tree.{Plus, EqEq, Lit, Val, Text, Truth, Literal, Name, BinaryExpr, VarAssign, Expression, Array, ArrayAccess, VarInit, ExprStmt, IfStmt, ForStmt, OverName, Else, Stmt, Stmts, noStmts, moreStmts}
+use Rattle.ast.specs.Tree.{Plus, EqEq, Lit, Val, Text, Truth, Literal, Name, BinaryExpr, VarAssign, ArrayMut, Expression, Array, ArrayAccess, VarInit, ExprStmt, IfStmt, ForStmt, OverName, Else, Stmt, Stmts, noStmts, moreStmts}
 use Rattle.compiler.specs.Lower.{lowerTree, programOf}
-use Rattle.vm.specs.RuntimeErr.{InvalidName, IndexOutOfBounds}
-use Rattle.vm.specs.Machine.{Stopped}
+use Rattle.vm.specs.RuntimeErr.{InvalidName, IndexOutOfBounds, NoIndex}
+use Rattle.vm.specs.Machine.{Done, Stopped}
 use Rattle.walk.specs.Walk.{walk, walkCount, walkNames, walkEnd}
 use Rattle.walk.specs.Bound.{bound}
 use Rattle.walk.specs.Runs.{runs}
@@ -38,21 +38,29 @@ pattern (some (Tab t)) = 0
 
 -- ---- "the index comes from the loop, not from the body's assignments": the body sets the index name to 7
 
-abbrev setting : Stmts
-setting =
+abbrev setting : Lit → Stmts
+setting l =
     script (VarInit 1 (Array 1 (one ∷ two ∷ Val 0x4008000000000000 ∷ []))
-    ∷ ForStmt 2 3 (OverName 1) (script (ExprStmt (VarAssign 2 (Expression (Literal (Val 0x401c000000000000)))) ∷ [])) ∷ [])
+    ∷ ForStmt 2 3 (OverName 1) (script (ExprStmt (VarAssign 2 (Expression (Literal l))) ∷ [])) ∷ [])
 
-index-from-loop : pattern (walkNames (walk setting) 2) ≡ 0x4008000000000000
+abbrev seven : Lit
+seven = Val 0x401c000000000000
+
+index-from-loop : pattern (walkNames (walk (setting seven)) 2) ≡ 0x4008000000000000
 unfolding indexOf ofInt ofBits toBits
 index-from-loop = refl
 
-passes-counted : walkCount (walk setting) ≡ 27
+passes-counted : walkCount (walk (setting seven)) ≡ 27
 unfolding indexOf ofInt ofBits
 passes-counted = refl
 
-bound-of-passes : bound setting ≡ 27
+bound-of-passes : bound (setting seven) ≡ 27
 bound-of-passes = refl
+
+-- to a fraction: the loop reads by its own index, which is whole
+fraction-not-read : walkEnd (walk (setting (Val 0x4004000000000000))) ≡ Done
+unfolding indexOf ofInt ofBits
+fraction-not-read = refl
 
 -- ---- case 3: the If's end is a step on both ways
 
@@ -99,18 +107,46 @@ bound-of-each : bound accessing-each ≡ 33
 bound-of-each = refl
 
 -- past the end: the name stays as it was
-abbrev accessing-past : Stmts
-accessing-past =
+abbrev accessing-at : Lit → Stmts
+accessing-at l =
     script (VarInit 1 (Array 1 (one ∷ two ∷ []))
-    ∷ VarInit 2 (Expression (Literal (Val 0x4014000000000000))) ∷ ExprStmt (VarAssign 2 (ArrayAccess 1 (Literal (Val 0x4022000000000000)))) ∷ [])
+    ∷ VarInit 2 (Expression (Literal (Val 0x4014000000000000))) ∷ ExprStmt (VarAssign 2 (ArrayAccess 1 (Literal l))) ∷ [])
 
-past-told : walkEnd (walk accessing-past) ≡ Stopped (IndexOutOfBounds 1 9 2)
+abbrev nine : Lit
+nine = Val 0x4022000000000000
+
+past-told : walkEnd (walk (accessing-at nine)) ≡ Stopped (IndexOutOfBounds 1 9 2)
 unfolding indexOf ofBits
 past-told = refl
 
-past-stays : pattern (walkNames (walk accessing-past) 2) ≡ 0x4014000000000000
+past-stays : pattern (walkNames (walk (accessing-at nine)) 2) ≡ 0x4014000000000000
 unfolding indexOf ofBits toBits
 past-stays = refl
+
+-- so too where the index is 2.5 (document 02, M-103)
+fraction-told : walkEnd (walk (accessing-at (Val 0x4004000000000000))) ≡ Stopped NoIndex
+unfolding indexOf ofBits
+fraction-told = refl
+
+fraction-stays : pattern (walkNames (walk (accessing-at (Val 0x4004000000000000))) 2) ≡ 0x4014000000000000
+unfolding indexOf ofBits toBits
+fraction-stays = refl
+
+-- an item set at -0 and at -1: minus zero is 0
+abbrev writing-at : Lit → Stmts
+writing-at l = script (VarInit 1 (Array 1 (Text 2 ∷ Text 3 ∷ [])) ∷ ExprStmt (ArrayMut 1 (Literal l) (Literal (Text 4))) ∷ [])
+
+minus-zero-written : walkNames (walk (writing-at (Val 0x8000000000000000))) 1 ≡ some (Arr (Str 4 ∷ Str 3 ∷ []))
+unfolding indexOf ofBits
+minus-zero-written = refl
+
+minus-one-told : walkEnd (walk (writing-at (Val 0xbff0000000000000))) ≡ Stopped NoIndex
+unfolding indexOf ofBits
+minus-one-told = refl
+
+minus-one-stays : walkNames (walk (writing-at (Val 0xbff0000000000000))) 1 ≡ some (Arr (Str 2 ∷ Str 3 ∷ []))
+unfolding indexOf ofBits
+minus-one-stays = refl
 
 -- the array's own name takes its item
 own-name-takes : walkNames (walk (script (VarInit 1 (Array 1 (Text 1 ∷ Truth true ∷ [])) ∷ ExprStmt (VarAssign 1 (ArrayAccess 1 (Literal one))) ∷ []))) 1 ≡ some (One (Bl true))

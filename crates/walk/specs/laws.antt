@@ -2,6 +2,7 @@
 pub mod BoundByNodes
 pub mod BoundSize
 pub mod Bounded
+pub mod LoopIndex
 pub mod Parts
 pub mod ShortArrays
 pub mod Simulation

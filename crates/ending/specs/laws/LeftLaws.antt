@@ -18,7 +18,7 @@ use Rattle.sifv.specs.laws.Layout.{field-behind}
 use Rattle.opc.specs.Op.{Instr, op}
 use Rattle.tables.specs.Tables.{Program}
 use Rattle.tables.specs.laws.ProgramLaws.{limits}
-use Rattle.vm.specs.RuntimeErr.{RuntimeErr, stopNumber, details, InvalidName, InvalidIncr, InvalidIncrTy, InvalidDecr, InvalidDecrTy, InvalidJump, RegNoContents, TyMismatch, NotAnArray, InvalidFnSym, EmptyCallStack, IndexOutOfBounds, EmptyRegister, KeyAbsent, NotSingle, StackFull, KeysFull}
+use Rattle.vm.specs.RuntimeErr.{RuntimeErr, stopNumber, details, InvalidName, InvalidIncr, InvalidIncrTy, InvalidDecr, InvalidDecrTy, InvalidJump, RegNoContents, TyMismatch, NotAnArray, InvalidFnSym, EmptyCallStack, IndexOutOfBounds, EmptyRegister, KeyAbsent, NotSingle, StackFull, KeysFull, NoIndex}
 use Rattle.vm.specs.Machine.{Machine, State, started, Answer, Done, Stopped, Spent, Ran, run, line}
 use Rattle.vm.specs.StateBytes.{mark, slotsAt, encodeState, decodeState}
 use Rattle.vm.specs.laws.StateLaws.{parts, state-fields, state-behind}
@@ -83,6 +83,7 @@ details-counted KeyAbsent = refl
 details-counted NotSingle = refl
 details-counted StackFull = refl
 details-counted KeysFull = refl
+details-counted NoIndex = refl
 
 -- ---- the end line
 

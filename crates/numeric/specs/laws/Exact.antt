@@ -100,10 +100,10 @@ flat (pos zero) h = refl
 flat (pos (suc a)) h = absurd (no-power (2 ^ suc a) (2 ^ a) (pow-succ' 2 a) (pow-pos a) (sym (mul-one (2 ^ suc a)) ∙ h))
 flat (negsuc a) h = absurd (no-power (2 ^ suc a) (2 ^ a) (pow-succ' 2 a) (pow-pos a) (sym (one-mul (2 ^ suc a)) ∙ h))
 
-abbrev Held : Format → ℕ → ℤ → Type 0
+abbrev pub Held : Format → ℕ → ℤ → Type 0
 Held f m e = (m < 2 ^ prec f) × (down e ≤ 2 ^ low f) × (m * up e < 2 ^ suc (emax f) * down e)
 
-held : (f : Format) (s : Bool) (m : ℕ) (e : ℤ) → T (fits f (fin s m e)) → Held f m e
+pub held : (f : Format) (s : Bool) (m : ℕ) (e : ℤ) → T (fits f (fin s m e)) → Held f m e
 unfolding fits
 held f s zero e h = subst (λ (x : ℤ). Held f 0 x) (sym (flat e (eqb→eq (up e * down e) 1 h))) (pow-pos (prec f), pow-pos (low f), mul-pos (pow-pos (suc (emax f))) (zero-lt-suc 0))
 held f s (suc m) e h =

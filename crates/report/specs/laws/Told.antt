@@ -11,7 +11,7 @@ use borrow.Author.Tests.{leb-true, leb-false}
 use Rattle.lent.specs.Bytes.{beBytes, splice}
 use Rattle.lent.specs.laws.Parts.{splice-append}
 use Rattle.tables.specs.Tables.{Program}
-use Rattle.vm.specs.RuntimeErr.{RuntimeErr, stopNumber, details, InvalidName, InvalidIncr, InvalidIncrTy, InvalidDecr, InvalidDecrTy, InvalidJump, RegNoContents, TyMismatch, NotAnArray, InvalidFnSym, EmptyCallStack, IndexOutOfBounds, EmptyRegister, KeyAbsent, NotSingle, StackFull, KeysFull}
+use Rattle.vm.specs.RuntimeErr.{RuntimeErr, stopNumber, details, InvalidName, InvalidIncr, InvalidIncrTy, InvalidDecr, InvalidDecrTy, InvalidJump, RegNoContents, TyMismatch, NotAnArray, InvalidFnSym, EmptyCallStack, IndexOutOfBounds, EmptyRegister, KeyAbsent, NotSingle, StackFull, KeysFull, NoIndex}
 use Rattle.vm.specs.Machine.{State, Answer, Done, Stopped, Spent, line}
 use Rattle.execute.specs.inner.View.{given}
 use Rattle.execute.specs.declared.RuntimeErr.{RuntimeErr as GivenErr}
@@ -77,6 +77,7 @@ number-byte KeyAbsent = refl
 number-byte NotSingle = refl
 number-byte StackFull = refl
 number-byte KeysFull = refl
+number-byte NoIndex = refl
 
 module _ (p : Program) (s : State) (k : ℕ) where
   stop-fields : (e : RuntimeErr) → reportFields 1 (signedBytes (line p (s .machine))) (given e) k ≡ report p (Stopped e) s k
