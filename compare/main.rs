@@ -23,7 +23,7 @@ fn main() -> ExitCode {
     let args: Vec<String> = std::env::args().skip(1).collect();
     let words: Vec<&str> = args.iter().map(String::as_str).collect();
     let done = match words.as_slice() {
-        ["check"] => numbers::compare(2024, 2_000_000).and_then(|()| files::compare(CASES, 2024, 500_000)),
+        ["check"] => check(),
         ["time"] => time(),
         _ => Err(String::from("check or time")),
     };
@@ -34,6 +34,12 @@ fn main() -> ExitCode {
             ExitCode::FAILURE
         }
     }
+}
+
+fn check() -> Result<(), String> {
+    numbers::compare(2024, 2_000_000)?;
+    files::compare(CASES, 2024, 500_000)?;
+    files::numbers()
 }
 
 /// Nanoseconds of one call of f, over all items, so many times.

@@ -16,10 +16,11 @@
  * - Two buffers lent to one call must not overlap.
  * - Nothing else is written or kept: no heap, no writable global data, no file. Every call ends: lower by the size of its file, run by the
  *   steps given.
- * - After an update: programs lowered before document 02's M-100 or M-103 are accepted and run as they did, but for M-103's rule: a
- *   step whose index is a fraction, negative, a NaN, infinite, or 2^64 or more stops with 38, unless a 27 of that step comes first, in
- *   states started before as well. A state goes on with the program that it was started for; a script that is lowered again is
- *   started again.
+ * - After an update: programs lowered before document 02's M-100, M-103 or M-104 are accepted and run as they did, but for M-103's
+ *   rule: a step whose index is a fraction, negative, a NaN, infinite, or 2^64 or more stops with 38, unless a 27 of that step
+ *   comes first, in states started before as well. A state goes on with the program that it was started for; a script that is
+ *   lowered again is started again. Tree files queued before M-104 are read by its rule: one with a NaN or an infinity as a number
+ *   is refused with 39, and is sent again by the desktop.
  * - Threads: calls on different buffers may run at the same time. A program that nobody writes may be lent to several calls at
  *   once, and a state that nobody writes to several sif_read_name; a state that is started or run is lent to that one call alone.
  * - Stack, measured on x86-64: sif_lower 31 KB over the files at the limits of bench/run, and up to 196 KB on a file of nothing
@@ -57,7 +58,8 @@ enum {
     SIF_SCRIPT_TOO_LARGE = 7,   /* more than 96 registers or 1,024 instructions */
     SIF_PROGRAM_REFUSED = 8,    /* the program buffer is not a program; sif_read_name: a text number over 63 */
     SIF_BUFFER_TOO_SHORT = 9,   /* a lent buffer is shorter than its size */
-    SIF_STATE_REFUSED = 10      /* the state buffer is not a state, or its count with the steps given would pass 2^64 - 1 */
+    SIF_STATE_REFUSED = 10,     /* the state buffer is not a state, or its count with the steps given would pass 2^64 - 1 */
+    SIF_NUMBER_NOT_FINITE = 39  /* a NaN or an infinity as a number of the file; checked with 5: the first node at fault decides */
 };
 
 /* How a run ended: byte 0 of its report. */
@@ -119,8 +121,8 @@ enum {
     SIF_TAB = 6
 };
 
-/* Lowers a tree file into a program. Answers 0, or 9; 1 to 5; 6 or 7. After 1 to 7 the program buffer's first 40,960 bytes are
- * zero. */
+/* Lowers a tree file into a program. Answers 0, or 9; 1 to 5 or 39; 6 or 7. After 1 to 7 and 39 the program buffer's first 40,960
+ * bytes are zero. */
 uint64_t sif_lower(const uint8_t *file, size_t file_len, uint8_t *program, size_t program_len);
 
 /* Makes a fresh state for a program: no name set, count 0, at the code start. Answers 0, or 9, 8. */

@@ -1,6 +1,7 @@
 //! The rows of the computed tables on bytes (`Rows.antt` in proofs/ of opc, tables, vm, report, lower
 //! and boundary, and `Written.antt` of opc) and on numbers (`Rows.antt` of numeric): each is answered
-//! by the original, by the oracle's own reader or writer of its bytes, or by the driver's rule.
+//! by the original, by the oracle's own reader or writer of its bytes, by the driver's rule, or by
+//! Rust's `is_finite`.
 
 use std::collections::HashMap;
 
@@ -75,6 +76,13 @@ impl<'t> Words<'t> {
     fn truth(&mut self) -> Result<bool, String> {
         let word = self.next()?;
         word.parse().map_err(|_| format!("neither true nor false: {word}"))
+    }
+
+    /// A number by its bits.
+    fn float(&mut self) -> Result<f64, String> {
+        let word = self.next()?;
+        let bits = word.strip_prefix("0x").and_then(|hex| u64::from_str_radix(hex, 16).ok());
+        bits.map(f64::from_bits).ok_or(format!("no bits: {word}"))
     }
 
     /// One run of bytes, or several as a list.
@@ -345,14 +353,20 @@ pub fn written_of(table: &str) -> Result<usize, String> {
 pub fn indexes_of(table: &str) -> Result<usize, String> {
     each(&lists(table, "Row")?, table, |mut words| {
         words.expect("row")?;
-        let bits = words.next()?.strip_prefix("0x").map(|hex| u64::from_str_radix(hex, 16));
-        let Some(Ok(bits)) = bits else {
-            return Err(String::from("no bits"));
-        };
+        let found = exact_index(words.float()?);
         let expected = words.rest()?;
-        let found = exact_index(f64::from_bits(bits));
         let text = found.map_or(String::from("none"), |index| format!("( some {index} )"));
         Ok(text == expected)
+    })
+}
+
+/// Numbers by their bits, each with whether it is finite.
+pub fn patterns_of(table: &str) -> Result<usize, String> {
+    each(&lists(table, "Pattern")?, table, |mut words| {
+        words.expect("pattern")?;
+        let (number, finite) = (words.float()?, words.truth()?);
+        words.end()?;
+        Ok(number.is_finite() == finite)
     })
 }
 

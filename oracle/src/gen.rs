@@ -45,11 +45,14 @@ pub fn by_seed(kind: &str, seed: u64, count: usize) -> Vec<Vec<u8>> {
     (0..count as u64).map(|item| seeded(kind, &mut Rng::new(seed, item))).collect()
 }
 
-/// Damaged files with the number that each has to get.
+/// Damaged files with the number that each has to get; 0 where it is accepted.
 pub fn damaged_list(seed: u64) -> Vec<(Vec<u8>, u8)> {
     let mut out = gen_damaged::all(10, seed);
     out.extend(gen_damaged::wrong_counts());
-    out.extend(gen_damaged::wrong_numbers());
+    out.extend(gen_damaged::unknown_fields());
+    out.extend(gen_damaged::special_numbers());
+    out.extend(gen_damaged::in_node_order());
+    out.extend(gen_damaged::just_finite());
     out
 }
 

@@ -4,35 +4,63 @@ use crate::rng::Rng;
 use crate::tree::kind::*;
 use crate::tree::*;
 
-/// The checks of document 01 in their order.
-pub const STAGES: usize = 10;
+/// The faults in the order of the checks. 5 and 39 are one check: the first node at fault decides.
+const FAULTS: usize = 11;
+const UNKNOWN_FIELD: usize = 7;
+const NOT_FINITE: usize = 8;
+const STRUCTURE: usize = 9;
+const LOWERING: usize = 10;
 
-/// The numbers that the stages give; the last stands for 6 and 7.
-const NUMBERS: [u8; STAGES] = [1, 2, 1, 4, 3, 1, 3, 5, 4, 6];
+/// The numbers of the faults; the last stands for 6 and 7.
+const NUMBERS: [u8; FAULTS] = [1, 2, 1, 4, 3, 1, 3, 5, 39, 4, 6];
 
-/// A file with a fault at each of the given stages, and the number it has to get.
-pub fn spoilt(stages: &[usize], rng: &mut Rng) -> (Vec<u8>, u8) {
-    let first = *stages.iter().min().expect("a stage");
-    let (root, seven) = root_for(stages, rng);
-    let mut file =
-        Spoilt { parts: Parts::new(&root, short_texts(4)), cut: usize::MAX, extra: 0, missing: 0 };
-    for stage in stages.iter().rev() {
-        file.spoil(*stage, rng);
+/// Both infinities and NaNs of both signs, with the first, the last and a middle payload.
+pub const NOT_FINITE_NUMBERS: [u64; 8] = [
+    0x7ff0_0000_0000_0000,
+    0xfff0_0000_0000_0000,
+    0x7ff8_0000_0000_0000,
+    0xfff8_0000_0000_0000,
+    0x7ff0_0000_0000_0001,
+    0xfff0_0000_0000_0001,
+    0x7fff_ffff_ffff_ffff,
+    0xffff_ffff_ffff_ffff,
+];
+
+/// Finite numbers next to those that are not, and next to the other end of the exponents.
+const JUST_FINITE: [u64; 6] = [
+    0x7fef_ffff_ffff_ffff,
+    0xffef_ffff_ffff_ffff,
+    0x0010_0000_0000_0000,
+    0x800f_ffff_ffff_ffff,
+    0x0000_0000_0000_0001,
+    0x8000_0000_0000_0000,
+];
+
+/// A file with each of the given faults, and the number it has to get.
+pub fn spoilt(faults: &[usize], rng: &mut Rng) -> (Vec<u8>, u8) {
+    let (root, seven) = root_for(faults, rng);
+    let mut file = Spoilt::new(Parts::new(&root, short_texts(4)));
+    for fault in faults.iter().rev() {
+        file.spoil(*fault, rng);
     }
-    let number = if first == STAGES - 1 && seven { 7 } else { NUMBERS[first] };
+    let number = match *faults.iter().min().expect("a fault") {
+        UNKNOWN_FIELD if file.not_finite < file.unknown_field => 39,
+        LOWERING if seven => 7,
+        first => NUMBERS[first],
+    };
     (file.bytes(), number)
 }
 
-/// Every stage alone and every two, with so many variants each.
+/// Every fault alone and every two, with so many variants each.
 pub fn all(variants: usize, seed: u64) -> Vec<(Vec<u8>, u8)> {
     let mut out = Vec::new();
-    for first in 0..STAGES {
-        for second in first..STAGES {
+    for first in 0..FAULTS {
+        for second in first..FAULTS {
             for variant in 0..variants {
-                let item = (first * STAGES + second) * 1000 + variant;
+                let item = (first * FAULTS + second) * 1000 + variant;
                 let mut rng = Rng::new(seed, item as u64);
-                let stages = if first == second { vec![first] } else { vec![first, second] };
-                out.push(spoilt(&stages, &mut rng));
+                let faults = if first == second { vec![first] } else { vec![first, second] };
+                out.push(spoilt(&faults, &mut rng));
             }
         }
     }
@@ -46,9 +74,15 @@ fn file_with_texts(root: &Node) -> Vec<u8> {
     Parts::new(root, short_texts(20)).bytes()
 }
 
-/// A small valid file with some of its bytes changed, left out or doubled.
+/// A small file, valid or at times with a number that is not finite, with some of its bytes changed,
+/// left out or doubled.
 pub fn scratched(rng: &mut Rng) -> Vec<u8> {
-    let mut file = file_with_texts(&sound(rng));
+    let root = one_of(sound_trees(), |_| true, rng);
+    let mut spoilt = Spoilt::new(Parts::new(&root, short_texts(20)));
+    if has_number(&root) && rng.chance(20) {
+        spoilt.spoil_number(rng);
+    }
+    let mut file = spoilt.bytes();
     for _ in 0..rng.between(1, 3) {
         let at = rng.below(file.len());
         match rng.below(6) {
@@ -75,9 +109,17 @@ struct Spoilt {
     /// Bytes too many and too few at the end.
     extra: usize,
     missing: usize,
+    /// The nodes that are at fault for 5 and for 39.
+    unknown_field: usize,
+    not_finite: usize,
 }
 
 impl Spoilt {
+    fn new(parts: Parts) -> Spoilt {
+        let none = usize::MAX;
+        Spoilt { parts, cut: none, extra: 0, missing: 0, unknown_field: none, not_finite: none }
+    }
+
     fn bytes(&self) -> Vec<u8> {
         let mut out = self.parts.bytes();
         out.extend(vec![0; self.extra]);
@@ -86,9 +128,9 @@ impl Spoilt {
         out
     }
 
-    fn spoil(&mut self, stage: usize, rng: &mut Rng) {
+    fn spoil(&mut self, fault: usize, rng: &mut Rng) {
         let contents = 3 + self.parts.texts.len() + 2 * self.parts.nodes.len();
-        match stage {
+        match fault {
             0 => self.cut = rng.below(3),
             1 => self.spoil_counts(rng),
             2 => self.cut = rng.between(3, contents - 1),
@@ -103,7 +145,8 @@ impl Spoilt {
             5 if rng.chance(50) => self.extra = rng.pick(&[1, 2, 9]),
             5 => self.missing = 1,
             6 => self.spoil_texts(rng),
-            7 => self.spoil_numbers(rng),
+            UNKNOWN_FIELD => self.spoil_field(rng),
+            NOT_FINITE => self.spoil_number(rng),
             _ => {}
         }
     }
@@ -129,48 +172,73 @@ impl Spoilt {
         }
     }
 
-    /// A text number out of range, or an unknown operator, where there is one.
-    fn spoil_numbers(&mut self, rng: &mut Rng) {
-        let start = rng.below(self.parts.nodes.len());
+    /// One of the nodes that fit, the first from a random one on.
+    fn find(&self, fits: impl Fn(&Entry) -> bool, rng: &mut Rng) -> usize {
         let count = self.parts.nodes.len();
-        for at in (start..count).chain(0..start) {
-            let node = &mut self.parts.nodes[at];
-            let wrong = match node.0 {
-                IF | NUM => continue,
-                BINARY => rng.pick(&[0, 14, 255]),
-                UNARY => rng.pick(&[0, 3, 255]),
-                _ => rng.pick(&[4, 5, 64, 255]),
-            };
-            if let Some(last) = node.2.last_mut() {
-                *last = wrong;
-                return;
-            }
-        }
+        let start = rng.below(count);
+        let at = (start..count).chain(0..start).find(|at| fits(&self.parts.nodes[*at]));
+        at.expect("a node that fits")
+    }
+
+    /// A text number out of range, or an unknown operator.
+    fn spoil_field(&mut self, rng: &mut Rng) {
+        let at = self.find(has_field, rng);
+        let node = &mut self.parts.nodes[at];
+        let wrong = match node.0 {
+            BINARY => rng.pick(&[0, 14, 255]),
+            UNARY => rng.pick(&[0, 3, 255]),
+            _ => rng.pick(&[4, 5, 64, 255]),
+        };
+        *node.2.last_mut().expect("a field") = wrong;
+        self.unknown_field = at;
+    }
+
+    /// An infinity or a NaN.
+    fn spoil_number(&mut self, rng: &mut Rng) {
+        let at = self.find(is_number, rng);
+        self.parts.nodes[at].2 = rng.pick(&NOT_FINITE_NUMBERS).to_be_bytes().to_vec();
+        self.not_finite = at;
     }
 }
 
-/// The tree for some stages: wrong in structure, refused by the lowering (with 7 if said so), both,
-/// or sound.
-fn root_for(stages: &[usize], rng: &mut Rng) -> (Node, bool) {
+/// Kind, child count and body of a node.
+type Entry = (u8, u8, Vec<u8>);
+
+/// Whether a node has a text number or an operator.
+fn has_field((kind, _, body): &Entry) -> bool {
+    !matches!(*kind, IF | NUM) && !body.is_empty()
+}
+
+fn is_number(node: &Entry) -> bool {
+    node.0 == NUM
+}
+
+fn has_number(root: &Node) -> bool {
+    root.kind == NUM || root.kids.iter().any(has_number)
+}
+
+/// The tree for some faults: wrong in structure, refused by the lowering (with 7 if said so), both,
+/// or sound; with a number where one has to be spoilt.
+fn root_for(faults: &[usize], rng: &mut Rng) -> (Node, bool) {
     let six = stmt(unary(1, assign(1, num(1.0))));
-    match (stages.contains(&8), stages.contains(&9)) {
+    let fits = |root: &Node| !faults.contains(&NOT_FINITE) || has_number(root);
+    match (faults.contains(&STRUCTURE), faults.contains(&LOWERING)) {
         (true, lowering) => {
-            let wrong = wrong_with_names();
-            let mut root = wrong[rng.below(wrong.len())].clone();
+            let mut root = one_of(wrong_with_names(), fits, rng);
             if lowering {
                 root.kids.insert(0, six);
             }
             (root, false)
         }
         (false, true) if rng.chance(70) => (program(vec![set(2, num(1.0)), six]), false),
-        (false, true) => (program(vec![stmt(text(1)); 97]), true),
-        (false, false) => (sound(rng), false),
+        (false, true) => (program([vec![stmt(num(1.0))], vec![stmt(text(1)); 96]].concat()), true),
+        (false, false) => (one_of(sound_trees(), fits, rng), false),
     }
 }
 
-fn sound(rng: &mut Rng) -> Node {
-    let roots = sound_trees();
-    roots[rng.below(roots.len())].clone()
+fn one_of(mut roots: Vec<Node>, fits: impl Fn(&Node) -> bool, rng: &mut Rng) -> Node {
+    roots.retain(fits);
+    roots.swap_remove(rng.below(roots.len()))
 }
 
 fn sound_trees() -> Vec<Node> {
@@ -183,7 +251,7 @@ fn sound_trees() -> Vec<Node> {
             if_(
                 binary(6, name(2), num(1.0)),
                 block(vec![decl(1, None)]),
-                vec![(binary(8, name(2), num(2.0)), block(vec![]))],
+                vec![(binary(8, name(2), num(2.0)), block(vec![set(1, num(3.0))]))],
                 vec![stmt(assign(3, yes()))],
             ),
         ]),
@@ -193,31 +261,87 @@ fn sound_trees() -> Vec<Node> {
         ]),
         program(vec![set_array(3, vec![num(1.0)]), stmt(mutate(3, num(0.0), unary(1, no())))]),
         program(vec![set(1, access(2, num(1.0))), stmt(binary(13, yes(), no()))]),
+        program(vec![
+            function(1, &[2], block(vec![give(Some(unary(2, num(1.0))))])),
+            stmt(call(1, vec![num(2.0)])),
+        ]),
     ]
 }
 
-/// Each text number and each operator of the sound trees just out of range.
-pub fn wrong_numbers() -> Vec<(Vec<u8>, u8)> {
+/// A kind's text numbers or operators that are just out of range.
+fn wrong_fields(kind: u8) -> [u8; 2] {
+    match kind {
+        BINARY => [0, 14],
+        UNARY => [0, 3],
+        _ => [4, 255],
+    }
+}
+
+/// Each node of the sound trees that fits: the tree in parts, and the node's place.
+fn each_node(fits: impl Fn(&Entry) -> bool) -> Vec<(Parts, usize)> {
     let mut out = Vec::new();
     for root in sound_trees() {
         let parts = Parts::new(&root, short_texts(4));
-        for at in 0..parts.nodes.len() {
-            let node = &parts.nodes[at];
-            let wrong: &[u8] = match node.0 {
-                IF | NUM => &[],
-                BINARY => &[0, 14],
-                UNARY => &[0, 3],
-                _ => &[4, 255],
-            };
-            for (place, value) in (0..node.2.len()).flat_map(|p| wrong.iter().map(move |v| (p, *v)))
-            {
-                let mut spoilt = parts.clone();
-                spoilt.nodes[at].2[place] = value;
-                out.push((spoilt.bytes(), 5));
-            }
+        let fitting = (0..parts.nodes.len()).filter(|at| fits(&parts.nodes[*at]));
+        out.extend(fitting.map(|at| (parts.clone(), at)));
+    }
+    out
+}
+
+/// Each text number and each operator of the sound trees just out of range.
+pub fn unknown_fields() -> Vec<(Vec<u8>, u8)> {
+    let mut out = Vec::new();
+    for (parts, at) in each_node(has_field) {
+        let (kind, _, body) = &parts.nodes[at];
+        let places = 0..body.len();
+        for (place, wrong) in places.flat_map(|p| wrong_fields(*kind).map(|wrong| (p, wrong))) {
+            let mut spoilt = parts.clone();
+            spoilt.nodes[at].2[place] = wrong;
+            out.push((spoilt.bytes(), 5));
         }
     }
     out
+}
+
+/// A copy with another number at a Num.
+fn with_number(parts: &Parts, at: usize, pattern: u64) -> Parts {
+    let mut copy = parts.clone();
+    copy.nodes[at].2 = pattern.to_be_bytes().to_vec();
+    copy
+}
+
+/// Each Num of the sound trees infinite and a NaN.
+pub fn special_numbers() -> Vec<(Vec<u8>, u8)> {
+    let spoilt = |(parts, at): (Parts, usize)| {
+        NOT_FINITE_NUMBERS.map(|pattern| (with_number(&parts, at, pattern).bytes(), 39))
+    };
+    each_node(is_number).into_iter().flat_map(spoilt).collect()
+}
+
+/// Each Num of the sound trees infinite or a NaN, and a text number or an operator out of range at each
+/// other node that has one: the first of the two nodes decides between 5 and 39.
+pub fn in_node_order() -> Vec<(Vec<u8>, u8)> {
+    let mut out = Vec::new();
+    for (parts, number) in each_node(is_number) {
+        for field in (0..parts.nodes.len()).filter(|at| has_field(&parts.nodes[*at])) {
+            let mut spoilt = with_number(
+                &parts,
+                number,
+                NOT_FINITE_NUMBERS[out.len() % NOT_FINITE_NUMBERS.len()],
+            );
+            let (kind, _, body) = &mut spoilt.nodes[field];
+            body[0] = wrong_fields(*kind)[out.len() % 2];
+            out.push((spoilt.bytes(), if field < number { 5 } else { 39 }));
+        }
+    }
+    out
+}
+
+/// Each Num of the sound trees just finite, in turn: accepted, which 0 stands for.
+pub fn just_finite() -> Vec<(Vec<u8>, u8)> {
+    let patterns = JUST_FINITE.into_iter().cycle();
+    let files = each_node(is_number).into_iter().zip(patterns);
+    files.map(|((parts, at), pattern)| (with_number(&parts, at, pattern).bytes(), 0)).collect()
 }
 
 /// Trees wrong in structure that hold a text number or an operator, with texts 0 to 3.

@@ -1,6 +1,6 @@
 //! Large scripts: up to 1,024 nodes, 64 texts, 8 loops nested, 16 keys; long and unused texts.
 
-use crate::gen_script::NUMBERS;
+use crate::gen_numbers::{finite, special, NUMBERS};
 use crate::rng::Rng;
 use crate::tree::*;
 
@@ -48,6 +48,7 @@ pub fn script(rng: &mut Rng, plain: bool) -> Node {
         numbers: Vec::new(),
     };
     let mut kids = vec![large.new_array(), large.new_array()];
+    kids.extend(large.special_items());
     while large.nodes > 30 && large.instructions > 20 && kids.len() < 255 {
         kids.push(large.statement(2));
     }
@@ -92,11 +93,22 @@ impl Large<'_> {
         self.rng.pick(&self.numbers)
     }
 
+    /// A number's literal.
     fn number(&mut self) -> Node {
         match self.rng.below(4) {
-            0 => bits(self.rng.pick(&NUMBERS)),
-            1 => bits(self.rng.next()),
+            0 => bits(finite(|| self.rng.pick(&NUMBERS))),
+            1 => bits(finite(|| self.rng.next())),
             _ => num(self.rng.below(9) as f64),
+        }
+    }
+
+    /// A literal; now and then an infinity or a NaN, whose operands stand one deeper.
+    fn value(&mut self, depth: usize) -> Node {
+        if depth < 31 && self.registers > 3 && self.rng.chance(12) {
+            self.take(2, 3, 3);
+            special(self.rng)
+        } else {
+            self.number()
         }
     }
 
@@ -128,6 +140,19 @@ impl Large<'_> {
         self.bind(name, array(name, items))
     }
 
+    /// At times an item of each array becomes an infinity or a NaN, which no literal is.
+    fn special_items(&mut self) -> Vec<Node> {
+        let mut out = Vec::new();
+        for (array, length) in self.arrays.clone() {
+            if length > 0 && self.rng.chance(20) {
+                self.take(6, 4, 5);
+                let index = num(self.rng.below(length) as f64);
+                out.push(stmt(mutate(array, index, special(self.rng))));
+            }
+        }
+        out
+    }
+
     fn statement(&mut self, depth: usize) -> Node {
         let deep = depth > 26 || self.nodes < 25;
         let takes = self.registers > 8;
@@ -145,7 +170,7 @@ impl Large<'_> {
             if self.plain { 0 } else { 8 },
         ];
         match self.rng.weighted(&weights) {
-            0 => self.simple(),
+            0 => self.simple(depth),
             1 => self.new_array(),
             2 => self.expression_statement(depth),
             3 => self.item(depth),
@@ -157,8 +182,8 @@ impl Large<'_> {
         }
     }
 
-    /// A constant or a name stored, which takes no register.
-    fn simple(&mut self) -> Node {
+    /// A constant or a name stored, which takes no register; or a number that is not finite.
+    fn simple(&mut self, depth: usize) -> Node {
         self.take(2, 0, 1);
         let target = self.name();
         match self.rng.below(10) {
@@ -172,7 +197,7 @@ impl Large<'_> {
                 self.bind(target, right)
             }
             _ => {
-                let right = self.number();
+                let right = self.value(depth + 2);
                 self.numbers.push(target);
                 self.bind(target, right)
             }
@@ -184,7 +209,7 @@ impl Large<'_> {
         self.take(1, 1, 1);
         match self.rng.below(if leaf { 4 } else { 10 }) {
             0 => name(self.known()),
-            1..=3 => self.number(),
+            1..=3 => self.value(depth),
             4 => {
                 let op = if self.rng.chance(95) { 2 } else { 1 };
                 unary(op, self.expression(depth + 1))
@@ -203,10 +228,11 @@ impl Large<'_> {
     fn condition(&mut self, depth: usize) -> Node {
         self.take(3, 3, 3);
         let op = self.rng.between(6, 10) as u8;
+        let compared = binary(op, self.value(depth + 2), self.value(depth + 2));
         if depth < 30 && self.rng.chance(10) {
-            return unary(1, binary(op, self.number(), self.number()));
+            return unary(1, compared);
         }
-        binary(op, self.number(), self.number())
+        compared
     }
 
     fn expression_statement(&mut self, depth: usize) -> Node {
@@ -231,7 +257,8 @@ impl Large<'_> {
             let target = self.name();
             return self.bind(target, access(from, index));
         }
-        let value = if self.rng.chance(80) { self.number() } else { self.expression(depth + 2) };
+        let value =
+            if self.rng.chance(80) { self.value(depth + 2) } else { self.expression(depth + 2) };
         stmt(mutate(from, index, value))
     }
 
@@ -289,8 +316,11 @@ impl Large<'_> {
         let mut items = Vec::new();
         for n in 0..count {
             self.take(2, 1, 2);
-            let value =
-                if self.rng.chance(80) { self.number() } else { self.expression(depth + 3) };
+            let value = if self.rng.chance(80) {
+                self.value(depth + 4)
+            } else {
+                self.expression(depth + 3)
+            };
             items.push((key(n, self.texts), value));
         }
         items.sort_by_key(|item| item.0);
@@ -310,10 +340,10 @@ impl Large<'_> {
             }
             2 => {
                 self.take(2, 1, 2);
-                let value = self.number();
+                let value = self.value(depth + 1);
                 give(self.rng.chance(50).then_some(value))
             }
-            _ => self.calling(),
+            _ => self.calling(depth),
         }
     }
 
@@ -332,12 +362,20 @@ impl Large<'_> {
         function(function_name, &params, body)
     }
 
-    fn calling(&mut self) -> Node {
+    fn calling(&mut self, depth: usize) -> Node {
         let known = self.functions.clone();
         let (function, count) =
             if known.is_empty() { (self.name(), 0) } else { self.rng.pick(&known) };
         self.take(2 + count, 1 + count, 3 + 2 * count);
-        let params = (0..count).map(|_| self.number()).collect();
+        let params = (0..count).map(|_| self.parameter(depth + 2)).collect();
         stmt(call(function, params))
+    }
+    /// A number, or a name that may hold one which is not finite: it takes one register, as a literal.
+    fn parameter(&mut self, depth: usize) -> Node {
+        if self.rng.chance(40) {
+            name(self.known())
+        } else {
+            self.value(depth)
+        }
     }
 }

@@ -1,6 +1,7 @@
 //! Directed scripts that are not plain: each place where functions, calls, returns, True and
 //! False, and nested assignments show what they do.
 
+use crate::gen_numbers::value;
 use crate::tree::*;
 
 /// In a fixed order.
@@ -10,6 +11,7 @@ pub fn all() -> Vec<Node> {
     out.extend(odd_values());
     out.extend(labels());
     out.extend(loops_over_calls());
+    out.extend(special_numbers());
     out
 }
 
@@ -264,4 +266,27 @@ fn loops_over_calls() -> Vec<Node> {
             stmt(call(1, vec![])),
         ]),
     ]
+}
+
+/// Infinities and NaN as parameters, given back, assigned inside an expression, as an index there.
+fn special_numbers() -> Vec<Node> {
+    let infinite = || value(f64::INFINITY);
+    let minus = || function(1, &[2, 3], block(vec![give(Some(binary(2, name(2), name(3))))]));
+    let negative = || value(f64::NEG_INFINITY);
+    let mut out = vec![
+        program(vec![minus(), set(4, call(1, vec![infinite(), negative()]))]),
+        program(vec![minus(), set(4, call(1, vec![infinite(), infinite()]))]),
+        program(vec![minus(), set(4, call(1, vec![value(f64::NAN), num(1.0)])), set(5, name(2))]),
+        program(vec![set(3, binary(1, assign(4, negative()), num(1.0)))]),
+    ];
+    let given = || call(1, vec![]);
+    let after = |number: f64, last: Node| program(vec![giving(1, value(number)), last]);
+    for number in [f64::NAN, f64::INFINITY, f64::NEG_INFINITY] {
+        out.push(after(number, set(2, binary(6, given(), given()))));
+    }
+    out.push(after(f64::NAN, set(2, table(vec![(1, given())]))));
+    out.push(after(f64::NAN, if_(given(), block(vec![]), vec![], vec![])));
+    out.push(after(f64::INFINITY, for_(2, 3, given(), block(vec![]))));
+    out.push(after(f64::INFINITY, set(3, mutate(2, given(), num(1.0)))));
+    out
 }

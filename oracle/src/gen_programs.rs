@@ -1,7 +1,7 @@
 //! Generated programs, as texts: the operations that no tree yields, every stop, every order of
 //! two stops, and programs at random.
 
-use crate::gen_script::index_numbers;
+use crate::gen_numbers::index_numbers;
 use crate::rng::Rng;
 
 /// Literals of each kind.

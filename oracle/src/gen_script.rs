@@ -1,5 +1,6 @@
 //! Generated scripts: plain ones, and others with functions, calls and returns.
 
+use crate::gen_numbers::{finite, given, index_numbers, special, NUMBERS};
 use crate::rng::Rng;
 use crate::tree::*;
 
@@ -12,67 +13,6 @@ enum Guess {
     Text,
     Array,
     Table,
-}
-
-pub const NUMBERS: [u64; 30] = [
-    0x0000_0000_0000_0000, // 0
-    0x8000_0000_0000_0000, // -0
-    0x3ff0_0000_0000_0000, // 1
-    0xbff0_0000_0000_0000, // -1
-    0x3fe0_0000_0000_0000, // 0.5
-    0xbfe0_0000_0000_0000, // -0.5
-    0x4007_3333_3333_3333, // 2.9
-    0xc01f_9999_9999_999a, // -7.9
-    0x3fef_ffff_ffff_ffff, // just below 1
-    0x3fb9_9999_9999_999a, // 0.1
-    0x7ff8_0000_0000_0000, // NaN
-    0xfff8_0000_0000_0001, // NaN with sign and payload
-    0x7ff0_0000_0000_0001, // signalling NaN
-    0x7ff0_0000_0000_0000, // infinity
-    0xfff0_0000_0000_0000, // -infinity
-    0x7fef_ffff_ffff_ffff, // the largest
-    0xffef_ffff_ffff_ffff, // the largest below zero
-    0x0000_0000_0000_0001, // the smallest
-    0x8000_0000_0000_0001, // the smallest below zero
-    0x0010_0000_0000_0000, // the smallest normal
-    0x000f_ffff_ffff_ffff, // the largest subnormal
-    0x4340_0000_0000_0000, // 2^53
-    0x4340_0000_0000_0001, // 2^53 + 2
-    0x43e0_0000_0000_0000, // 2^63
-    0x43ef_ffff_ffff_ffff, // just below 2^64
-    0x43f0_0000_0000_0000, // 2^64
-    0x44b5_2d02_c7e1_4af6, // 1e23
-    0x3cb0_0000_0000_0000, // 2^-52
-    0x4008_0000_0000_0000, // 3
-    0x4059_0000_0000_0000, // 100
-];
-
-/// Numbers whose neighbours tell which numbers are indexes.
-const BORDERS: [u64; 13] = [
-    0x3fe0_0000_0000_0000, // 0.5
-    0x3ff0_0000_0000_0000, // 1
-    0x4004_0000_0000_0000, // 2.5
-    0x4037_0000_0000_0000, // 23
-    0x4038_0000_0000_0000, // 24
-    0x41ef_ffff_ffe0_0000, // 2^32 - 1
-    0x41f0_0000_0000_0000, // 2^32
-    0x4330_0000_0000_0000, // 2^52
-    0x4340_0000_0000_0000, // 2^53
-    0x43e0_0000_0000_0000, // 2^63
-    0x43f0_0000_0000_0000, // 2^64
-    0xbfe0_0000_0000_0000, // -0.5
-    0xbff0_0000_0000_0000, // -1
-];
-
-/// Numbers to be used as indexes: the special ones, and the borders with their neighbours.
-pub fn index_numbers() -> Vec<u64> {
-    let mut out = NUMBERS.to_vec();
-    for number in BORDERS.iter().flat_map(|border| border - 1..=border + 1) {
-        if !out.contains(&number) {
-            out.push(number);
-        }
-    }
-    out
 }
 
 pub struct Script<'r> {
@@ -132,6 +72,7 @@ impl Script<'_> {
         }
         for _ in 0..self.rng.below(4) {
             kids.push(self.new_array());
+            kids.extend(self.special_item());
         }
         for _ in 0..self.rng.below(4) {
             let name = self.name_for(Guess::Num);
@@ -179,13 +120,29 @@ impl Script<'_> {
         self.guesses[name as usize] = guess;
     }
 
-    fn number(&mut self) -> Node {
+    /// A number's literal.
+    fn literal(&mut self) -> Node {
         self.take(1);
         match self.rng.below(10) {
             0..=5 => num(self.rng.below(5) as f64),
             6 => num(self.rng.below(200) as f64 / 8.0 - 10.0),
-            7 => bits(self.rng.next()),
-            _ => bits(self.rng.pick(&NUMBERS)),
+            7 => bits(finite(|| self.rng.next())),
+            _ => bits(finite(|| self.rng.pick(&NUMBERS))),
+        }
+    }
+
+    /// An expression that gives an infinity or a NaN.
+    fn special(&mut self) -> Node {
+        self.take(3);
+        special(self.rng)
+    }
+
+    /// A literal; now and then an infinity or a NaN.
+    fn number(&mut self) -> Node {
+        if self.rng.chance(5) {
+            self.special()
+        } else {
+            self.literal()
         }
     }
 
@@ -207,7 +164,7 @@ impl Script<'_> {
         match self.rng.below(12) {
             0 => self.any_text(),
             1 => self.truth_literal(),
-            _ => self.number(),
+            _ => self.literal(),
         }
     }
 
@@ -221,6 +178,18 @@ impl Script<'_> {
         self.lengths[name as usize] = length;
         let stated = if self.rng.chance(10) { self.any_name() } else { name };
         self.bind(stated, array(name, items))
+    }
+
+    /// Now and then an item of an array becomes an infinity or a NaN, which no literal is.
+    fn special_item(&mut self) -> Option<Node> {
+        let array = self.name_with(Guess::Array)?;
+        let length = self.lengths[array as usize];
+        if length == 0 || !self.rng.chance(12) {
+            return None;
+        }
+        self.take(3);
+        let index = num(self.rng.below(length) as f64);
+        Some(stmt(mutate(array, index, self.special())))
     }
 
     fn set_number(&mut self, name: u8) -> Node {
@@ -305,6 +274,7 @@ impl Script<'_> {
             0 => self.any_text(),
             1 if self.rng.chance(40) => name(self.any_name()),
             2 => self.truth(depth + 2, false),
+            3 => self.special(),
             _ => self.sum(depth + 2),
         };
         stmt(mutate(into, index, value))
@@ -322,7 +292,7 @@ impl Script<'_> {
                 Some(number) => name(number),
                 None => num(0.0),
             },
-            7 => bits(self.rng.pick(&index_numbers())),
+            7 => given(self.rng.pick(&index_numbers()), self.rng),
             8 if self.rng.chance(50) => num(self.rng.below(length) as f64 + 0.75),
             9 => unary(2, num(0.0)),
             14 => num(length as f64),

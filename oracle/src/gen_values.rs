@@ -1,7 +1,7 @@
 //! Every operator on every kind of value, every place that reads a value, and numbers of all
 //! sorts in arithmetic.
 
-use crate::gen_script::{index_numbers, NUMBERS};
+use crate::gen_numbers::{finite, given, index_numbers, value, NUMBERS};
 use crate::rng::Rng;
 use crate::tree::*;
 
@@ -94,6 +94,8 @@ pub fn all() -> Vec<Node> {
     out.extend(accesses());
     out.extend(loops());
     out.extend(special_numbers());
+    out.extend(special_values());
+    out.extend(literals());
     out
 }
 
@@ -111,11 +113,14 @@ fn indexes() -> Vec<Node> {
     let empty = set_array(1, vec![]);
     let four = set_array(1, vec![text(0); 4]);
     let most = set_array(1, vec![text(0); 24]);
-    for number in index_numbers() {
-        out.extend(both(&empty, &bits(number)));
-        out.extend(both(&four, &bits(number)));
-        if (22.5..24.5).contains(&f64::from_bits(number)) {
-            out.extend(both(&most, &bits(number)));
+    let mut numbers: Vec<f64> = index_numbers().into_iter().map(f64::from_bits).collect();
+    // by arithmetic there is one NaN
+    numbers.dedup_by(|a, b| a.is_nan() && b.is_nan());
+    for number in numbers {
+        out.extend(both(&empty, &value(number)));
+        out.extend(both(&four, &value(number)));
+        if (22.5..24.5).contains(&number) {
+            out.extend(both(&most, &value(number)));
         }
     }
     out
@@ -151,7 +156,7 @@ fn computed_indexes() -> Vec<Node> {
     }
     for number in [2.5, -0.0, -1.0, 18_446_744_073_709_551_616.0, f64::NAN] {
         let named =
-            |last: Vec<Node>| program([vec![set(4, num(number)), items.clone()], last].concat());
+            |last: Vec<Node>| program([vec![set(4, value(number)), items.clone()], last].concat());
         out.push(named(vec![set(2, access(1, name(4)))]));
         out.push(named(vec![stmt(mutate(1, name(4), name(4))), set(2, name(1))]));
         // in the body of a loop, whose own index stays whole
@@ -234,20 +239,82 @@ fn loops() -> Vec<Node> {
     ]
 }
 
+/// Both infinities and a NaN, and the names that hold them.
+const HELD: [(u8, f64); 3] = [(30, f64::INFINITY), (31, f64::NEG_INFINITY), (32, f64::NAN)];
+
+/// The name that holds a number, or its literal.
+fn held(number: f64) -> Node {
+    let same = |(_, own): &&(u8, f64)| own.to_bits() == number.to_bits();
+    HELD.iter().find(same).map_or(num(number), |(own, _)| name(*own))
+}
+
+/// The literals of the finite numbers.
+fn finite_numbers() -> Vec<Node> {
+    let finite = NUMBERS.into_iter().filter(|number| f64::from_bits(*number).is_finite());
+    finite.map(bits).collect()
+}
+
+/// Statements that give values to names, from 1 on.
+fn to_names(values: &[Node]) -> Vec<Node> {
+    values.iter().zip(1..).map(|(value, name)| set(name, value.clone())).collect()
+}
+
 /// Every operator for numbers on every two of a few special ones, and minus on all of them.
 fn special_numbers() -> Vec<Node> {
     let few = [0.0, -0.0, 1.5, f64::NAN, f64::INFINITY, f64::NEG_INFINITY];
-    let mut results: Vec<Node> = NUMBERS.iter().map(|n| unary(2, bits(*n))).collect();
+    let special = HELD.map(|(own, _)| name(own));
+    let mut results: Vec<Node> =
+        finite_numbers().into_iter().chain(special).map(|number| unary(2, number)).collect();
     for op in 1..=10 {
         for left in few {
-            results.extend(few.map(|right| binary(op, num(left), num(right))));
+            results.extend(few.map(|right| binary(op, held(left), held(right))));
         }
     }
-    let script = |chunk: &[Node]| {
-        let set = |(at, result): (usize, &Node)| set(1 + at as u8, result.clone());
-        program(chunk.iter().enumerate().map(set).collect())
-    };
-    results.chunks(32).map(script).collect()
+    let stores: Vec<Node> = HELD.iter().map(|(own, number)| set(*own, value(*number))).collect();
+    let script = |chunk: &[Node]| program([stores.clone(), to_names(chunk)].concat());
+    // 29 results and 3 stores, each of at most 3 registers: 96 in all
+    results.chunks(29).map(script).collect()
+}
+
+/// Both infinities and a NaN as an array's items, in a loop over them and in its body, in a table, and
+/// where another kind of value is wanted.
+fn special_values() -> Vec<Node> {
+    let numbers = HELD.map(|(_, number)| value(number));
+    let put = |(at, number): (usize, &Node)| stmt(mutate(1, num(at as f64), number.clone()));
+    let mut items = vec![set_array(1, vec![num(0.0); 3])];
+    items.extend(numbers.iter().enumerate().map(put));
+    let after = |last: Vec<Node>| program([items.clone(), last].concat());
+    let pass = |body: Vec<Node>| for_(2, 3, name(1), block(body));
+    let read = |to: u8, at: f64| set(to, access(1, num(at)));
+    let equal = binary(6, name(3), name(3));
+    let branches = if_(
+        binary(8, name(3), num(0.0)),
+        block(vec![set(4, name(3))]),
+        vec![(equal.clone(), block(vec![set(5, name(3))]))],
+        vec![set(6, name(3))],
+    );
+    let keyed = numbers.iter().zip(1..).map(|(number, key)| (key, number.clone())).collect();
+    let mut out = vec![
+        after(vec![read(2, 0.0), read(3, 1.0), read(4, 2.0), set(5, name(1)), set(6, name(2))]),
+        after(vec![set(4, num(0.0)), pass(vec![set(4, binary(1, name(4), name(3)))])]),
+        after(vec![pass(vec![set(5, equal), stmt(mutate(1, name(2), unary(2, name(3))))])]),
+        after(vec![pass(vec![set(2, name(3)), set(4, name(2))])]),
+        after(vec![pass(vec![set(4, access(1, name(3)))])]),
+        after(vec![pass(vec![branches])]),
+        after(vec![pass(vec![set(4, table(vec![(1, name(3)), (2, num(1.0))]))])]),
+        program(vec![set(1, table(keyed))]),
+    ];
+    for number in numbers {
+        out.push(program(vec![if_(number.clone(), block(vec![]), vec![], vec![])]));
+        out.push(program(vec![set(1, number), for_(2, 3, name(1), block(vec![]))]));
+    }
+    out
+}
+
+/// Every finite number given to a name, and all but zero as an array's items, of which it has 24.
+fn literals() -> Vec<Node> {
+    let finite = finite_numbers();
+    vec![program(to_names(&finite)), program(vec![set_array(1, finite[1..].to_vec())])]
 }
 
 /// A script of results of arithmetic and comparison on numbers of all sorts.
@@ -263,9 +330,9 @@ pub fn numbers(rng: &mut Rng) -> Node {
 fn number(rng: &mut Rng) -> Node {
     match rng.below(6) {
         0 => num(rng.below(2000) as f64 / 16.0 - 60.0),
-        1 => bits(rng.next()),
+        1 => bits(finite(|| rng.next())),
         2 => bits(0x3ff0_0000_0000_0000 + (rng.next() >> 12)),
         3 => bits((rng.next() >> 12) + ((1000 + rng.below(60) as u64) << 52)),
-        _ => bits(rng.pick(&NUMBERS)),
+        _ => given(rng.pick(&NUMBERS), rng),
     }
 }

@@ -2,7 +2,7 @@
 
 use oracle::{
     bytes, cases, compare, counts, examples, gen, listing, listings, mutants, page, program,
-    records, refuse, rows, store,
+    records, refuse, rows, special, store,
 };
 use std::io::{self, Read, Write};
 use std::process::ExitCode;
@@ -45,6 +45,7 @@ fn command(words: &[&str]) -> Result<(), String> {
         ["counts", folder] => print(&counts::text(folder)?),
         ["rows", folder] => rows::check(folder),
         ["faults", seed] => store::faults(number(seed)?),
+        ["special", seed, count] => special::check(number(seed)?, number(count)?),
         ["mutants", sources, list, cases, scratch] => mutants::run(sources, list, cases, scratch),
         ["cases"] => cases::check(),
         _ => Err(String::from("unknown command; README.md lists the commands")),

@@ -1,5 +1,5 @@
 //! Reads a tree file: document 01's checks in their order, each made on the whole file before
-//! the next begins.
+//! the next begins; 39 (document 02, M-104) is checked with 5.
 
 use crate::tree::kind::*;
 use crate::tree::{body_length, is_expression, is_right_side, is_statement, Node};
@@ -12,7 +12,7 @@ pub const LOOPS: usize = 8;
 pub const ARRAY_ITEMS: usize = 24;
 pub const TABLE_ITEMS: usize = 16;
 
-/// The tree of an accepted file, or the number that refuses it (1 to 5).
+/// The tree of an accepted file, or the number that refuses it (1 to 5 and 39).
 pub fn read(file: &[u8]) -> Result<Node, u8> {
     let contents = contents(file)?;
     kinds_known(&contents)?;
@@ -90,16 +90,30 @@ fn texts_allowed(texts: &[&[u8]]) -> Result<(), u8> {
     (printable && ascending && first).then_some(()).ok_or(3)
 }
 
-/// Text numbers below the text count, operators within their range.
+/// One pass over the bodies: the first node at fault gives the number.
 fn numbers_known(contents: &Contents, bodies: &Bodies) -> Result<(), u8> {
     let count = bodies.texts.len();
-    let known = contents.nodes.iter().zip(&bodies.nodes).all(|((kind, _), body)| match *kind {
+    let mut nodes = contents.nodes.iter().zip(&bodies.nodes);
+    nodes.try_for_each(|((kind, _), body)| {
+        fields_known(*kind, body, count).then_some(()).ok_or(5)?;
+        (*kind != NUM || is_finite(body)).then_some(()).ok_or(39)
+    })
+}
+
+/// Text numbers below the text count, operators within their range.
+fn fields_known(kind: u8, body: &[u8], count: usize) -> bool {
+    match kind {
         IF | NUM => true,
         BINARY => (1..=13).contains(&body[0]),
         UNARY => (1..=2).contains(&body[0]),
         _ => body.iter().all(|text| usize::from(*text) < count),
-    });
-    known.then_some(()).ok_or(5)
+    }
+}
+
+/// Whether a Num's body is neither a NaN nor infinite.
+fn is_finite(body: &[u8]) -> bool {
+    let number = f64::from_be_bytes(body.try_into().expect("8 bytes"));
+    number.is_finite()
 }
 
 /// What may stand at a place of the tree.

@@ -4,8 +4,8 @@
 use std::fs;
 
 use crate::byte_rows::{
-    calls_of, indexes_of, programs_of as buffers_of, records_of, reports_of, slots_of, states_of,
-    written_of,
+    calls_of, indexes_of, patterns_of, programs_of as buffers_of, records_of, reports_of, slots_of,
+    states_of, written_of,
 };
 use crate::listing::{listing, state_of_file, STEPS};
 use crate::program::run_text;
@@ -37,14 +37,18 @@ pub fn check(crates: &str) -> Result<(), String> {
     let slots = each_read("sifv/proofs/Rows.antt", slots_of)?;
     let states = each_read("vm/proofs/Rows.antt", states_of)?;
     let reports = each_read("report/proofs/Rows.antt", reports_of)?;
-    let indexes = each_read("numeric/proofs/Rows.antt", indexes_of)?;
+    let numbers = "numeric/proofs/Rows.antt";
+    let patterns = patterns_of(&read(numbers)?)?;
+    let both = |table: &str| Ok(indexes_of(table)? + patterns_of(table)?);
+    let indexes = each_read(numbers, both)? - patterns;
     let calls = each_read("lower/proofs/Rows.antt", calls_of)?
         + each_read("boundary/proofs/Rows.antt", calls_of)?;
     println!(
         "rows: {files} files, {programs} programs, {lowerings} lowerings, {readings} readings, \
          {records} records, {buffers} program buffers, {slots} slots, {states} states, \
          {reports} reports and {calls} calls of the computed tables, as by the original, \
-         a 38 by the driver's rule, and {indexes} indexes by that rule"
+         a 38 by the driver's rule, and {indexes} indexes by that rule; {patterns} numbers finite \
+         or not, as by Rust"
     );
     Ok(())
 }

@@ -24,10 +24,10 @@ const SEED: u64 = 2024;
 /// their listings have to hold.
 const KINDS: [(&str, usize, usize, usize, &str); 5] = [
     ("limits", 0, 0, 0, ""),
-    ("damaged", 500, 158, 43_200, ""),
-    ("other", 5000, 1_000, 123_400, "Call"),
-    ("values", 7, 3_000, 22_000, ""),
-    ("plain", 4000, 1_000, 90_000, "JmpCnd"),
+    ("damaged", 500, 158, 34_000, ""),
+    ("other", 5000, 1_000, 110_000, "Call"),
+    ("values", 6, 3_000, 18_500, ""),
+    ("plain", 4000, 1_000, 72_000, "JmpCnd"),
 ];
 
 /// Writes `cases.bin` and `programs.bin` into a folder; prints how many of each kind.
@@ -128,16 +128,24 @@ fn programs() -> Result<(Vec<u8>, usize), String> {
     Ok((out, count))
 }
 
-/// Damaged files get the number that their damage stands for.
+/// Damaged files get the number that their damage stands for; those that it leaves sound are accepted.
 pub fn faults(seed: u64) -> Result<(), String> {
     let list = damaged_list(seed);
+    let refused =
+        |answer: &str| answer.strip_prefix("refused ").map(|rest| rest.trim_end().parse());
     for (item, (file, number)) in list.iter().enumerate() {
         let answer = listing(file);
-        if answer != format!("refused {number}\n") {
+        if refused(&answer).unwrap_or(Ok(0)) != Ok(*number) {
             let head: String = answer.lines().take(1).collect();
             return Err(format!("damaged file {item}: {head} in place of {number}: {file:?}"));
         }
     }
-    println!("faults: {} damaged files get their numbers", list.len());
+    let accepted = list.iter().filter(|(_, number)| *number == 0).count();
+    let special = list.iter().filter(|(_, number)| *number == 39).count();
+    println!(
+        "faults: {} damaged files get their numbers, {special} of them 39; {accepted} with numbers \
+         that are just finite are accepted",
+        list.len() - accepted
+    );
     Ok(())
 }

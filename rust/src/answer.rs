@@ -6,8 +6,8 @@ use std::fmt;
 use crate::bytes::{u64_at, u8_at};
 use crate::value::Name;
 
-/// Why a call was refused (document 01, "Numbers given for the input"). A refused call has changed
-/// nothing that this crate keeps.
+/// Why a call was refused (document 01, "Numbers given for the input"; 39: document 02, M-104). A
+/// refused call has changed nothing that this crate keeps.
 #[derive(Clone, Copy, Debug, PartialEq, Eq, Hash)]
 pub enum Refusal {
     /// 1: under 3 bytes, contents cut off, or bodies that do not end with the file.
@@ -30,11 +30,13 @@ pub enum Refusal {
     BufferTooShort,
     /// 10: bytes that are no state of the program, or a count of steps past 2^64 − 1.
     StateRefused,
+    /// 39: a NaN or an infinity as a number of the file.
+    NumberNotFinite = 39,
 }
 
 impl Refusal {
     /// All refusals, by number.
-    pub const ALL: [Refusal; 10] = [
+    pub const ALL: [Refusal; 11] = [
         Refusal::FileCut,
         Refusal::FileCounts,
         Refusal::FileTexts,
@@ -45,14 +47,15 @@ impl Refusal {
         Refusal::ProgramRefused,
         Refusal::BufferTooShort,
         Refusal::StateRefused,
+        Refusal::NumberNotFinite,
     ];
 
-    /// The refusal of a number, 1 to 10.
+    /// The refusal of a number, 1 to 10, or 39.
     pub fn from_number(number: u64) -> Option<Refusal> {
         Refusal::ALL.into_iter().find(|refusal| u64::from(refusal.number()) == number)
     }
 
-    /// Its number, 1 to 10.
+    /// Its number, 1 to 10, or 39.
     pub fn number(self) -> u8 {
         self as u8
     }
@@ -70,6 +73,7 @@ impl Refusal {
             Refusal::ProgramRefused => "not a program",
             Refusal::BufferTooShort => "too few bytes",
             Refusal::StateRefused => "not a state of this program, or too many steps",
+            Refusal::NumberNotFinite => "a number that is a NaN or infinite",
         }
     }
 

@@ -1,6 +1,7 @@
 //! Numbers as people write them.
 //!
-//! [`write()`] gives the shortest decimal form that reads back to the same number, [`read`] reads it.
+//! [`write()`] gives the shortest decimal form; where the number is finite, [`read`] reads it back
+//! to the same number.
 //!
 //! ```
 //! use sif::decimal;
@@ -13,9 +14,6 @@
 
 use std::fmt;
 
-/// The NaN that arithmetic gives and that is written as `nan` alone.
-pub const NAN: u64 = 0x7ff8_0000_0000_0000;
-
 /// The shortest decimal form of a number: plain where the number is 0 or from 0.00001 to below
 /// 10,000,000,000,000,000, else with an exponent; `inf`, `-inf` and `nan`.
 pub fn write(number: f64) -> String {
@@ -26,22 +24,6 @@ pub fn write(number: f64) -> String {
         number.to_string()
     } else {
         format!("{number:e}")
-    }
-}
-
-/// The decimal form of a number by its pattern; a NaN other than [`NAN`] has its pattern beside it.
-///
-/// ```
-/// use sif::decimal;
-/// assert_eq!(decimal::write_pattern(0x7ff8_0000_0000_0000), "nan");
-/// assert_eq!(decimal::write_pattern(0xfff8_0000_0000_0001), "nan(fff8000000000001)");
-/// ```
-pub fn write_pattern(pattern: u64) -> String {
-    let number = f64::from_bits(pattern);
-    if number.is_nan() && pattern != NAN {
-        format!("nan({pattern:016x})")
-    } else {
-        write(number)
     }
 }
 
@@ -60,24 +42,18 @@ impl fmt::Display for Unreadable {
     fn fmt(&self, f: &mut fmt::Formatter<'_>) -> fmt::Result {
         f.write_str(match self {
             Unreadable::Form => "this is no number; numbers look like 12, 0.5 or 1e300, and names do not begin with a digit",
-            Unreadable::TooLarge => "this number is too large; the largest is about 1.8e308",
-            Unreadable::TooSmall => "this number is too near 0; the smallest is about 5e-324",
+            Unreadable::TooLarge => "this number is too large; the largest is about 1.797e308",
+            Unreadable::TooSmall => "this number is too near 0; the smallest above 0 is about 5e-324",
         })
     }
 }
 
 impl std::error::Error for Unreadable {}
 
-/// Reads a number in decimal form, with or without a sign, a fraction and an exponent, or `inf`,
-/// `-inf`, `nan`. The nearest number is taken.
+/// Reads a finite number in decimal form, with or without a sign, a fraction and an exponent. The
+/// nearest number is taken.
 pub fn read(text: &str) -> Result<f64, Unreadable> {
     let digits = text.strip_prefix('-').unwrap_or(text);
-    match (text, digits) {
-        ("nan", _) => return Ok(f64::from_bits(NAN)),
-        ("inf", _) => return Ok(f64::INFINITY),
-        ("-inf", _) => return Ok(f64::NEG_INFINITY),
-        _ => {}
-    }
     if !has_decimal_form(digits) {
         return Err(Unreadable::Form);
     }
@@ -90,28 +66,6 @@ pub fn read(text: &str) -> Result<f64, Unreadable> {
         Err(Unreadable::TooSmall)
     } else {
         Ok(number)
-    }
-}
-
-/// Reads a number and gives its pattern; beside what [`read`] reads, a NaN with its pattern.
-///
-/// ```
-/// use sif::decimal;
-/// assert_eq!(decimal::read_pattern("-2"), Ok((-2.0f64).to_bits()));
-/// assert_eq!(decimal::read_pattern("nan(7ff0000000000001)"), Ok(0x7ff0_0000_0000_0001));
-/// ```
-pub fn read_pattern(text: &str) -> Result<u64, Unreadable> {
-    let Some(inside) = text.strip_prefix("nan(").and_then(|rest| rest.strip_suffix(')')) else {
-        return read(text).map(f64::to_bits);
-    };
-    if inside.len() != 16 || !inside.bytes().all(|byte| byte.is_ascii_hexdigit()) {
-        return Err(Unreadable::Form);
-    }
-    let pattern = u64::from_str_radix(inside, 16).map_err(|_| Unreadable::Form)?;
-    if f64::from_bits(pattern).is_nan() {
-        Ok(pattern)
-    } else {
-        Err(Unreadable::Form)
     }
 }
 

@@ -27,7 +27,7 @@ impl Program {
     /// No accepted tree file is longer (`SIF_FILE_LONGEST`).
     pub const FILE_LONGEST: usize = 12_867;
 
-    /// Lowers a tree file (`sif_lower`): refused with 1 to 7. Takes up to 196 KB of stack.
+    /// Lowers a tree file (`sif_lower`): refused with 1 to 7, or 39. Takes up to 196 KB of stack.
     pub fn lower(file: &[u8]) -> Result<Program, Refusal> {
         let mut bytes = vec![0; Program::SIZE];
         Refusal::check(ffi::lower(file, &mut bytes), Refusal::FileCut)?;

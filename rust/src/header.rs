@@ -76,6 +76,7 @@ fn constants_of_crate() -> BTreeMap<String, u64> {
         ("PROGRAM_REFUSED", Refusal::ProgramRefused),
         ("BUFFER_TOO_SHORT", Refusal::BufferTooShort),
         ("STATE_REFUSED", Refusal::StateRefused),
+        ("NUMBER_NOT_FINITE", Refusal::NumberNotFinite),
     ];
     constants.extend(refusals.map(|(name, refusal)| (name, refusal.number().into())));
     constants.extend(stops().map(|(name, stop)| (name, stop.number().into())));
@@ -142,10 +143,13 @@ fn refusals() {
     for refusal in Refusal::ALL {
         assert_eq!(Refusal::from_number(refusal.number().into()), Some(refusal));
     }
-    assert_eq!(Refusal::from_number(0), None);
-    assert_eq!(Refusal::from_number(11), None);
+    for number in [0, 11, 37, 38, 40, 295, u64::MAX] {
+        assert_eq!(Refusal::from_number(number), None, "{number}");
+    }
     assert_eq!(Refusal::check(0, Refusal::FileCut), Ok(()));
     assert_eq!(Refusal::check(10, Refusal::FileCut), Err(Refusal::StateRefused));
+    assert_eq!(Refusal::check(39, Refusal::FileCut), Err(Refusal::NumberNotFinite));
+    assert_eq!(Refusal::check(38, Refusal::FileCut), Err(Refusal::FileCut));
 }
 
 /// The declarations that `ffi.rs` writes down in Rust: `const uint8_t *` is `*const u8` there,

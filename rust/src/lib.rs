@@ -37,8 +37,8 @@
 //! ```
 //!
 //! The engine is proved; what this crate adds is not, and is tested. No function panics, whatever it
-//! is given. `include/sif.h` has the engine's calls, docs/FORMATS.md the buffers, and "document 01"
-//! is the paper with every number and rule of the engine.
+//! is given. `include/sif.h` has the engine's calls, docs/FORMATS.md the buffers, "document 01" is
+//! the paper with the numbers and rules of the engine, and "document 02" the one with their changes.
 #![deny(missing_docs)]
 #![cfg_attr(
     not(test),

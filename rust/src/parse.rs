@@ -179,6 +179,11 @@ fn adopt(parts: &mut Parts, children: Vec<Parts>) -> Result<(), Error> {
     Ok(())
 }
 
+/// How a word of the language is written where it is a name.
+fn as_name(word: &str) -> String {
+    format!("as a name this word is written in backquotes, `{word}`")
+}
+
 /// Reads lines; the nodes and texts are counted.
 struct Parser<'l> {
     lines: &'l [Line],
@@ -230,10 +235,7 @@ impl Parser<'_> {
         let at = cursor.at();
         match cursor.peek() {
             Some(Token::Word(word)) if RESERVED.contains(&word.as_str()) => {
-                let why = format!(
-                    "{what} is missing; as a name this word is written in backquotes, `{word}`"
-                );
-                Err(cursor.unexpected(&why))
+                Err(cursor.unexpected(&format!("{what} is missing; {}", as_name(word))))
             }
             Some(Token::Word(name) | Token::Name(name)) => {
                 cursor.advance();

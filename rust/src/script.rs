@@ -1,8 +1,8 @@
 //! A script: what a tree file says, as a tree of statements and expressions.
 //!
-//! [`Script::read`] makes the checks of document 01 that answer 1 to 5, in its order, and names the
-//! place of the first fault. A [`Script`] is always one that these checks accept, so it can be
-//! written again, to the byte.
+//! [`Script::read`] makes the checks of document 01 that answer 1 to 5, in its order, with document
+//! 02's 39 beside 5, and names the place of the first fault. A [`Script`] is always one that these
+//! checks accept, so it can be written again, to the byte.
 //!
 //! ```
 //! use sif::script::Script;
@@ -47,8 +47,10 @@ pub const TABLE_ITEMS: usize = 16;
 pub const CHILDREN: usize = 255;
 /// Text 0 of every file.
 pub const FORTMP: &str = "fortmp";
+/// What is said of a NaN or an infinity as a number.
+pub(crate) const FINITE: &str = "the numbers of a script are finite";
 
-/// A script that the checks 1 to 5 accept.
+/// A script that the checks 1 to 5 and 39 accept.
 #[derive(Clone, Debug, PartialEq, Eq)]
 pub struct Script {
     texts: Vec<String>,
@@ -223,7 +225,7 @@ pub enum ExpressionForm {
     Binary(Binary, Box<Expression>, Box<Expression>),
     /// An operator before an expression.
     Unary(Unary, Box<Expression>),
-    /// A number, by its binary64 pattern.
+    /// A number, by its binary64 pattern; a script's are finite.
     Number(u64),
     /// A text.
     Text(u8),

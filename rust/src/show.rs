@@ -347,7 +347,7 @@ impl Words<'_> {
                 }
             }
             ExpressionForm::Unary(operator, operand) => self.unary(*operator, operand),
-            ExpressionForm::Number(pattern) => decimal::write_pattern(*pattern),
+            ExpressionForm::Number(pattern) => decimal::write(f64::from_bits(*pattern)),
             ExpressionForm::Text(text) => quoted(self.script.text(*text)),
             ExpressionForm::Name(name) => self.name(*name),
             ExpressionForm::True => "true".to_string(),

@@ -246,6 +246,37 @@ fn texts_that_are_no_script() {
     assert!(err.contains("refused.sif: line 2, column 7: refused with 6: "), "{err}");
 }
 
+/// A tree file with an infinity, as it may be queued, is refused by every command, with the place;
+/// a text with one makes no tree file.
+#[test]
+fn numbers_that_are_not_finite() {
+    let file = b"\0\x03\x02\x06\x01\x01\x01\x08\x01\x13\0fortmpx\x01\x7f\xf0\0\0\0\0\0\0";
+    let path = scratch("infinite.tree", file);
+    let refused = "refused with 39: the number is inf; the numbers of a script are finite; at \
+                   byte 19; node 2: Program > statement 1 (VarDecl) > Num\n";
+    let line = format!("{}: {refused}", path.display());
+    let rows = [
+        ("check", line.clone(), String::new()),
+        ("list", "refused 39\n".into(), String::new()),
+        ("page", refused.into(), String::new()),
+        ("trace", refused.into(), String::new()),
+        ("show", String::new(), format!("sif: {line}")),
+    ];
+    for (command, out, err) in rows {
+        let got = ended(&sif(&[command.as_ref(), path.as_os_str()]));
+        assert_eq!(got, (1, out, err), "{command}");
+    }
+
+    let source = scratch("infinite.sif", b"var x = 2\nx = [1, -inf]\n");
+    let made = scratch("kept.tree", b"as before");
+    let words = ["tree".as_ref(), "-o".as_ref(), made.as_os_str(), source.as_os_str()];
+    let why = "the numbers of a script are finite; 1 / 0 gives inf; as a name this word is \
+               written in backquotes, `inf`";
+    let err = format!("sif: {}: line 2, column 10: {why}\n", source.display());
+    assert_eq!(ended(&sif(&words)), (2, String::new(), err));
+    assert_eq!(fs::read(&made).unwrap(), b"as before");
+}
+
 /// An output that nobody reads ends the command without a word.
 #[test]
 fn closed_pipe() {
@@ -462,12 +493,14 @@ done after 12 steps (bound 12)
 #[test]
 fn dots_at_the_edges() {
     let text = "\
-var a = [1, nan]
+var a = [1, 2]
+a[1] = 0 / 0
 var b = [1, 256]
 var c = [1, 0.5]
 var d = [1, -1]
 var e = [1, true]
-var f = [1, inf]
+var f = [1, 2]
+f[1] = 1 / 0
 var g = [0, 255, -0]
 var h = []
 ";
@@ -480,13 +513,13 @@ e = [1, yes]
 f = [1, inf]
 g = \u{2800}\u{28ff}\u{2800}
 h = []
-done after 8 steps (bound 8)
+done after 18 steps (bound 18)
 ";
     assert_eq!(
         screen("edges.tree", &["page", "--dots"], text),
         (0, expected.into(), String::new())
     );
-    let none = (1, "not ended after 0 steps (bound 8)\n".to_string(), String::new());
+    let none = (1, "not ended after 0 steps (bound 18)\n".to_string(), String::new());
     assert_eq!(screen("no_steps.tree", &["page", "--steps", "0"], text), none);
     assert_eq!(screen("no_trace.tree", &["trace", "--steps", "0"], text), none);
 }

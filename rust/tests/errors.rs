@@ -38,11 +38,12 @@ fn shown_forms_stay() {
         "var x = -!y\n",
         "var x = !!y\n",
         "var x = -0\n",
-        "var x = -inf\n",
-        "var x = -(inf)\n",
-        "var x = nan\n",
-        "var x = -(nan)\n",
-        "var x = nan(fff8000000000000)\n",
+        "var x = -(0)\n",
+        "var x = 5e-324\n",
+        "var x = -1.7976931348623157e308\n",
+        "var x = `inf` + -`nan`\n",
+        "`inf` = `nan`(1)\n",
+        "var x = {\"inf\": \"nan\", info: nano}\n",
         "var x = a - -2\n",
         "var x = a - (b - c)\n",
         "var x = a - b - c\n",
@@ -165,10 +166,8 @@ fn places_of_errors() {
     assert_eq!(at("x = [1, y]"), (1, 9));
     assert_eq!(at("x = [1 2]"), (1, 8));
     assert_eq!(at("x = {a 1}"), (1, 8));
-    assert_eq!(at("x = 1e999"), (1, 5));
     assert_eq!(at("x = 12a"), (1, 5));
     assert_eq!(at("x = .5"), (1, 5));
-    assert_eq!(at("x = nan(12)"), (1, 5));
     assert_eq!(at("if x:\n    empty\n    y"), (3, 5));
     assert_eq!(at("if x:\n    y\nelse:\n    empty"), (3, 1));
     assert_eq!(at("if x:\n    unused \"y\""), (2, 5));
@@ -206,13 +205,76 @@ fn words_of_errors() {
     for text in ["for i, v in 3:\n    y", "for i, v in cells[2]:\n    y"] {
         assert!(words(text).ends_with("as in for i, v in cells"), "{text}");
     }
-    assert!(words("x = nan(7ff0000000000000)").starts_with("this is no NaN"));
     assert!(words("# one\rx = 1\r").starts_with("the character 13 has no meaning"));
     assert!(words("x = .5").contains("0.5"));
     assert!(words("x = 'text'").starts_with("`'` has no meaning"));
     assert!(words("caf\u{e9} = 1").contains("letters a to z"));
     assert!(words("x = \"\u{7}\"").starts_with("the character 7 cannot stand"));
     assert!(words("var 2x = 1").contains("names do not begin with a digit"));
+}
+
+/// `inf` and `nan`, once numbers, are refused wherever they stand; as names they are in backquotes.
+#[test]
+fn no_words_for_numbers() {
+    let inf = "the numbers of a script are finite; 1 / 0 gives inf; as a name this word is \
+               written in backquotes, `inf`";
+    let nan = "the numbers of a script are finite; 0 / 0 gives nan; as a name this word is \
+               written in backquotes, `nan`";
+    let rows = [
+        ("x = inf", 1, 5, inf),
+        ("x = -inf", 1, 6, inf),
+        ("x = -(inf)", 1, 7, inf),
+        ("y = 1\nvar x = 1 + nan", 2, 13, nan),
+        ("x = -nan", 1, 6, nan),
+        ("x = nan(fff8000000000001)", 1, 5, nan),
+        ("x = [1, inf]", 1, 9, inf),
+        ("x = [1,\n     -inf]", 2, 7, inf),
+        ("x = [nan(7ff8000000000001), nan]", 1, 6, nan),
+        ("x = {k: nan}", 1, 9, nan),
+        ("x = cells[inf]", 1, 11, inf),
+        ("cells[0] = inf", 1, 12, inf),
+        ("f(1, nan)", 1, 6, nan),
+        ("if x == inf:\n    empty", 1, 9, inf),
+        ("fn f():\n    return -inf", 2, 13, inf),
+        ("inf", 1, 1, inf),
+        ("inf = 3", 1, 1, inf),
+        ("var nan", 1, 5, nan),
+        ("for inf, v in cells:\n    empty", 1, 5, inf),
+        ("fn nan(a):\n    return", 1, 4, nan),
+        ("x = {inf: 1}", 1, 6, inf),
+    ];
+    for (text, line, column, words) in rows {
+        assert_eq!(error(text), (line, column, words.into()), "{text}");
+    }
+    assert_eq!(shown("x = \"inf\"  # nan\n"), "x = \"inf\"\n");
+    let words = "`/` cannot stand here: the items of an array are numbers, texts, true and false; \
+                 others are set afterwards, as in cells[1] = 1 / 0";
+    assert_eq!(error("x = [10, 1 / 0]"), (1, 12, words.into()));
+}
+
+/// Numbers at the borders: what would be infinite or nothing is told, and never taken as that.
+#[test]
+fn numbers_at_the_borders() {
+    let large = "this number is too large; the largest is about 1.797e308";
+    let small = "this number is too near 0; the smallest above 0 is about 5e-324";
+    let rows = [
+        ("x = 1e999", 1, 5, large),
+        ("x = -1e999", 1, 6, large),
+        ("x = 1.7976931348623159e308", 1, 5, large),
+        ("y = 2\nx = [1, -1.8e308]", 2, 10, large),
+        ("x = 1e-999", 1, 5, small),
+        ("x = -2e-324", 1, 6, small),
+    ];
+    for (text, line, column, words) in rows {
+        assert_eq!(error(text), (line, column, words.into()), "{text}");
+    }
+    let largest = "x = 1.7976931348623157e308\n";
+    assert_eq!(shown("x = 1.7976931348623158e308"), largest);
+    assert_eq!(shown("x = 3e-324"), "x = 5e-324\n");
+    assert_eq!(shown("x = 1.797e308"), "x = 1.797e308\n");
+    for text in [largest, "x = -5e-324\n", "x = 2.2250738585072014e-308\n", "x = [-0, 0]\n"] {
+        same(text);
+    }
 }
 
 #[test]
@@ -269,7 +331,7 @@ fn limits_by_place() {
 #[test]
 fn scratched_texts() {
     let text = "fn f(a, b):\n    return a + b\n\nvar x = [1, -2.5e3, \"t\", true] as `y z`\n\
-                for i, v in x:\n    if v == nan:\n        x[i] = (v = {k: 1})\n    elif !v:\n        \
+                for i, v in x:\n    if v == 1e9:\n        x[i] = (v = {k: 1})\n    elif !v:\n        \
                 empty\n    else:\n        f(1, 2)\nunused \"q\\\\\"\n";
     let mut number = 1u64;
     let mut next = |limit: usize| {

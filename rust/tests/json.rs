@@ -187,7 +187,7 @@ fn stored_files() {
         names.push(name.into());
     }
     let refused: Vec<_> = cases.iter().filter_map(|case| case.refused()).collect();
-    assert!((1..=7).all(|number| refused.contains(&number)));
+    assert!((1..=7).chain([39]).all(|number| refused.contains(&number)));
     assert_eq!(lines(&names), (wanted, Some(1)));
 }
 
@@ -224,6 +224,23 @@ fn odd_names() {
     assert_eq!(members["file"], string("no \"file"));
     assert!(matches!(&members["error"], Json::String(what) if what.starts_with("no \"file: ")));
     assert_eq!(members.len(), 2);
+}
+
+/// A number that is not finite, with its place.
+#[test]
+fn not_finite() {
+    let file = b"\0\x03\x02\x06\x01\x01\x01\x08\x01\x13\0fortmpx\x01\xff\xf8\0\0\0\0\0\x01";
+    fs::write(folder().join("not_finite.tree"), file).unwrap();
+    let place = [("number", number(2)), ("path", string("Program > statement 1 (VarDecl) > Num"))];
+    let wanted = object(&[
+        ("file", string("not_finite.tree")),
+        ("accepted", Json::Bool(false)),
+        ("number", number(39)),
+        ("words", string("the number is nan; the numbers of a script are finite")),
+        ("byte", number(19)),
+        ("node", object(&place)),
+    ]);
+    assert_eq!(lines(&["not_finite.tree".into()]), (vec![wanted], Some(1)));
 }
 
 /// An index that is none is no fault of the file: the page stops, the file is accepted.

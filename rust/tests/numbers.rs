@@ -1,24 +1,22 @@
-//! Numbers as people write them: what is written reads back to the same number.
+//! Numbers as people write them: what is written of a finite number reads back to it, and no text
+//! reads to a NaN or an infinity.
 
 mod scripts;
 
-use scripts::generator::PATTERNS;
+use scripts::generator::{NOT_FINITE, PATTERNS};
 use scripts::Random;
-use sif::decimal::{read, read_pattern, write, write_pattern, Unreadable};
+use sif::decimal::{read, write, Unreadable};
 
 fn hold(pattern: u64) {
-    let text = write_pattern(pattern);
-    assert_eq!(read_pattern(&text), Ok(pattern), "{pattern:016x} as {text}");
-    let number = f64::from_bits(pattern);
-    if !number.is_nan() {
-        assert_eq!(text, write(number));
-        assert_eq!(read(&text).map(f64::to_bits), Ok(pattern), "{pattern:016x} as {text}");
-    }
+    let text = write(f64::from_bits(pattern));
+    let finite = pattern & 0x7ff0_0000_0000_0000 != 0x7ff0_0000_0000_0000;
+    let expected = if finite { Ok(pattern) } else { Err(Unreadable::Form) };
+    assert_eq!(read(&text).map(f64::to_bits), expected, "{pattern:016x} as {text}");
 }
 
 #[test]
 fn extremes() {
-    PATTERNS.into_iter().for_each(hold);
+    PATTERNS.into_iter().chain(NOT_FINITE).for_each(hold);
     for exponent in 0..2048u64 {
         for fraction in [0, 1, 2, (1 << 51) - 1, 1 << 51, (1 << 52) - 2, (1 << 52) - 1] {
             hold(exponent << 52 | fraction);
@@ -106,22 +104,48 @@ fn refused_forms() {
         " 1",
         "0x10",
         "--1",
+        "inf",
+        "-inf",
+        "Inf",
         "infinity",
+        "nan",
         "NaN",
         "-nan",
-        "nan()",
-        "nan(7ff8)",
-        "nan(3ff0000000000000)",
-        "nan(+ff8000000000000)",
+        "nan(7ff8000000000001)",
         "1e5e5",
         "one",
         "\u{661}",
     ];
     for text in texts {
-        assert_eq!(read_pattern(text), Err(Unreadable::Form), "{text}");
+        assert_eq!(read(text), Err(Unreadable::Form), "{text}");
     }
-    assert_eq!(read("1e309"), Err(Unreadable::TooLarge));
-    assert_eq!(read("-1.8e308"), Err(Unreadable::TooLarge));
-    assert_eq!(read("1e-324"), Err(Unreadable::TooSmall));
-    assert_eq!(read("0e-999"), Ok(0.0));
+}
+
+/// What is nearer to 2^1024 than to the largest number is too large, and so is the number in the
+/// middle; what is nearer to 0 than to the smallest is too small.
+#[test]
+fn borders() {
+    // 2^1024 - 2^970, and 1 less.
+    let middle = "17976931348623158079372897140530341507993413271003782693617377898044496829276475\
+                  09466490179775872070963302864166928879109465555478519404026306574886715058206819\
+                  08902000708383676273854845817711531764475730270069855571366959622842914819860834\
+                  936475292719074168444365510704342711559699508093042880177904174497792";
+    let below = format!("{}1", middle.strip_suffix('2').unwrap());
+    for text in ["1.7976931348623157e308", "1.7976931348623158e308", &below] {
+        assert_eq!(read(text), Ok(f64::MAX), "{text}");
+        assert_eq!(read(&format!("-{text}")), Ok(f64::MIN), "-{text}");
+    }
+    for text in [middle, "1.7976931348623159e308", "1.8e308", "1e309", "1e999", "1e99999999999"] {
+        assert_eq!(read(text), Err(Unreadable::TooLarge), "{text}");
+        assert_eq!(read(&format!("-{text}")), Err(Unreadable::TooLarge), "-{text}");
+    }
+    for text in ["5e-324", "3e-324"] {
+        assert_eq!(read(text), Ok(f64::from_bits(1)), "{text}");
+    }
+    for text in ["2e-324", "1e-324", "1e-999", "-1e-999"] {
+        assert_eq!(read(text), Err(Unreadable::TooSmall), "{text}");
+    }
+    for (text, zero) in [("0e-999", 0.0f64), ("0e999", 0.0), ("-0e999", -0.0)] {
+        assert_eq!(read(text).map(f64::to_bits), Ok(zero.to_bits()), "{text}");
+    }
 }

@@ -156,6 +156,39 @@ fn what_surprises() {
     assert_eq!(run(text).0["y"], number(2.0));
 }
 
+/// What a script does not write, arithmetic gives.
+#[test]
+fn infinities_come_of_arithmetic() {
+    let number = |number: f64| Value::Single(Single::Number(number));
+    let (names, answer) = run("a = 1 / 0\nb = -1 / 0\nc = -(1 / 0)\nd = 1e308 * 10\ne = 0 / 0");
+    assert_eq!(answer, Answer::Done);
+    assert_eq!([&names["a"], &names["d"]], [&number(f64::INFINITY); 2]);
+    assert_eq!([&names["b"], &names["c"]], [&number(f64::NEG_INFINITY); 2]);
+    assert!(matches!(names["e"], Value::Single(Single::Number(e)) if e.is_nan()));
+    let (names, _) = run("limits = [10, 20]\nlimits[1] = 1 / 0");
+    let items = [10.0, f64::INFINITY].map(Single::Number).to_vec();
+    assert_eq!(names["limits"], Value::Array(items));
+}
+
+/// The line that the README has for a queued file with an infinity is what `check` prints.
+#[test]
+fn a_queued_file_of_the_readme() {
+    let text = "var title = \"Sums\"\nvar limits = [10, 20]\n";
+    let mut file = parse(text).unwrap().script.to_bytes();
+    let last = file.len() - 8;
+    file[last..].copy_from_slice(&f64::INFINITY.to_be_bytes());
+    let folder = PathBuf::from(env!("CARGO_TARGET_TMPDIR"));
+    std::fs::write(folder.join("queued.tree"), file).unwrap();
+    let check = ["check", "queued.tree"];
+    let output = Command::new(env!("CARGO_BIN_EXE_sif")).args(check).current_dir(folder).output();
+    let output = output.unwrap();
+    assert_eq!(output.status.code(), Some(1));
+    let line = String::from_utf8(output.stdout).unwrap();
+    assert!(line.starts_with("queued.tree: refused with 39: "), "{line}");
+    let readme = String::from_utf8(stored("README.md")).unwrap();
+    assert!(readme.contains(&format!("\n    {line}")), "{line}");
+}
+
 /// The stops that a script can come to, each in words with the script's names.
 #[test]
 fn stops_in_words() {

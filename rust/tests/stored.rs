@@ -2,10 +2,12 @@
 
 mod scripts;
 
+use scripts::generator::NOT_FINITE;
 use scripts::{program_of, records, stored};
 use sif::check::check;
 use sif::listing::{end_text, listing, names_text, refused, value_text};
-use sif::{Machine, Name, Program, Refusal};
+use sif::parse::parse;
+use sif::{Answer, Machine, Name, Program, Refusal};
 
 #[test]
 fn listings() {
@@ -59,6 +61,30 @@ fn whole_machine(bytes: &[u8], steps: u64) -> String {
         }
     }
     out + &format!("position {}\ncount {}\n", machine.position(), machine.steps())
+}
+
+/// Programs from before document 02's M-104 run as they did: a literal that no tree file has now,
+/// in Stc, in an array's item and in Ldc, stays what it was, and every NaN is one.
+#[test]
+fn literals_that_are_not_finite() {
+    let rows = [
+        ("var x = 2\n", 8, "held 1\nname 1 V\n"),
+        ("var x = [2, 3]\n", 16_384 + 16 + 8, "held 1\nname 1 Arr:[Num:4000000000000000,V]\n"),
+        ("x = 2 * 1\n", 8, "held 1\nname 1 V\n"),
+    ];
+    for (text, at, names) in rows {
+        for pattern in NOT_FINITE {
+            let lowered = Program::lower(&parse(text).unwrap().script.to_bytes()).unwrap();
+            let mut bytes = lowered.bytes().to_vec();
+            bytes[at..at + 8].copy_from_slice(&pattern.to_be_bytes());
+            let program = Program::from_bytes(&bytes).unwrap();
+            let mut machine = program.start().unwrap();
+            assert_eq!(machine.run(100).unwrap().answer, Answer::Done);
+            let word = if f64::from_bits(pattern).is_nan() { 0x7ff8 << 48 } else { pattern };
+            let expected = names.replace('V', &format!("Num:{word:016x}"));
+            assert_eq!(names_text(&machine), expected, "{text}{pattern:016x}");
+        }
+    }
 }
 
 /// Each refusal of a buffer.

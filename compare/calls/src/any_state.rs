@@ -3,7 +3,7 @@
 
 use std::collections::HashMap;
 
-use oracle::gen_script::NUMBERS;
+use oracle::gen_numbers::NUMBERS;
 use oracle::names::name_of;
 use oracle::original::sifc_bytecode::sifv::SifVal;
 use oracle::rng::Rng;

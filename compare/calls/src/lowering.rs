@@ -71,13 +71,14 @@ pub fn damaged(place: &mut Place, folder: &str, seed: u64, count: u64) -> Result
     Ok(())
 }
 
-/// A copy with bytes set, added, taken out or cut off, up to three times.
+/// A copy with bytes set, added, taken out or cut off, or two set as infinities and NaNs begin, up to
+/// three times.
 fn damage(file: &[u8], rng: &mut Rng) -> Vec<u8> {
     let mut copy = file.to_vec();
     for _ in 0..rng.between(1, 3) {
         let near = if rng.chance(60) { copy.len().min(200) } else { copy.len() };
         let at = rng.below(near + 1);
-        match rng.below(8) {
+        match rng.below(9) {
             0 => copy.insert(at, rng.next() as u8),
             1 => copy.truncate(if rng.chance(90) { copy.len().saturating_sub(1) } else { at }),
             2 => copy.push(rng.next() as u8),
@@ -88,6 +89,10 @@ fn damage(file: &[u8], rng: &mut Rng) -> Vec<u8> {
             4 => copy[at] = copy[at].wrapping_add(1),
             5 => copy[at] = copy[at].wrapping_sub(1),
             6 => copy[at] = rng.below(25) as u8,
+            7 if at + 1 < copy.len() => {
+                copy[at] |= 0x7f;
+                copy[at + 1] |= 0xf0;
+            }
             _ => copy[at] = rng.next() as u8,
         }
     }

@@ -17,8 +17,8 @@ pub struct Place {
     value: Lent,
     pub origin: String,
     pub calls: u64,
-    /// Answers 0 to 10 of lower, start, run, read_name.
-    pub answers: [[u64; 11]; 4],
+    /// Answers 0 to 39 of lower, start, run, read_name.
+    pub answers: [[u64; 40]; 4],
 }
 
 /// A buffer of such a length filled with marks.
@@ -47,7 +47,7 @@ impl Place {
             value: Lent::new(calls::VALUE, MORE),
             origin: String::new(),
             calls: 0,
-            answers: [[0; 11]; 4],
+            answers: [[0; 40]; 4],
         }
     }
 
@@ -59,7 +59,7 @@ impl Place {
 
     fn answered(&mut self, call: usize, ours: u64, expected: u64) -> Result<(), String> {
         self.calls += 1;
-        self.answers[call][ours.min(10) as usize] += 1;
+        self.answers[call][ours.min(39) as usize] += 1;
         if ours == expected {
             Ok(())
         } else {
@@ -156,9 +156,9 @@ impl Place {
     /// How often each call answered what.
     pub fn figures(&self) -> String {
         let names = ["lower", "start", "run", "read_name"];
-        let one = |(name, answers): (&str, &[u64; 11])| {
+        let one = |(name, answers): (&str, &[u64; 40])| {
             let all: u64 = answers.iter().sum();
-            let each: Vec<String> = (0..11usize)
+            let each: Vec<String> = (0..40usize)
                 .filter(|n| answers[*n] > 0)
                 .map(|n| format!("{n}: {}", answers[n]))
                 .collect();

@@ -1,11 +1,12 @@
--- The tree file, computed: each number from 1 to 5 with what it stands for, the order of the checks (document 01, "Lowering checks in this order"), each limit
--- and one past it. A row has the file as one number, its size before it, and what it is read as. The numbers are document 01's; oracle/ compares every row
--- with the reader that stands before the original there.
+-- The tree file, computed: each number from 1 to 5 and 39 with what it stands for, the order of the checks (document 01, "Lowering checks in this order";
+-- document 02, M-104), each limit and one past it. A row has the file as one number, its size before it, and what it is read as. The numbers are the
+-- documents'; oracle/ compares every row with the reader that stands before the original there.
 use Prim.Native.Nat.{ℕ, zero, suc}
 use mathlib.Core.Path.{_≡_, refl}
 use mathlib.Core.Bool.{true}
 use mathlib.Core.List.{List, [], _∷_}
 use lib.ListN.{replicate}
+use lib.Ieee.{ofBits}
 use Rattle.lent.specs.Bytes.{beBytes}
 use Rattle.ast.specs.Tree.{Lit, Val, Truth, Literal, Expression, Table, Array, Items, noItems, moreItems, OverName}
 use Rattle.ast.specs.Tree.{Stmt, Block, ForStmt, Return, VarInit, FnDecl, Stmts, noStmts, moreStmts}
@@ -41,7 +42,7 @@ data Row : Type 0 where
   row : (size file : ℕ) (r : Read) → readTree (beBytes size file) ≡ r → Row
 
 rows : List Row
-unfolding readTree
+unfolding readTree ofBits
 rows =
     -- document 01's first example, with a for x
     row 27 0x0003020601010108011300666f72746d7061014000000000000000 (Tree (script (VarInit 1 (Expression (Literal two)) ∷ []))) refl ∷
@@ -77,6 +78,39 @@ rows =
     row 19 0x000401060101110216001600666f72746d700e (Refused 5) refl ∷
     row 15 0x0002010601011500666f72746d7001 (Refused 5) refl ∷
     row 21 0x000401060101050215000200666f72746d70000100 (Refused 5) refl ∷
+    -- 39 (document 02, M-104): the infinities and NaNs of both signs, the first and the last
+    row 27 0x0003020601010108011300666f72746d7061017ff0000000000000 (Refused 39) refl ∷
+    row 27 0x0003020601010108011300666f72746d706101fff0000000000000 (Refused 39) refl ∷
+    row 27 0x0003020601010108011300666f72746d7061017ff0000000000001 (Refused 39) refl ∷
+    row 27 0x0003020601010108011300666f72746d706101fff0000000000001 (Refused 39) refl ∷
+    row 27 0x0003020601010108011300666f72746d7061017ff8000000000000 (Refused 39) refl ∷
+    row 27 0x0003020601010108011300666f72746d706101fff8000000000000 (Refused 39) refl ∷
+    row 27 0x0003020601010108011300666f72746d7061017fffffffffffffff (Refused 39) refl ∷
+    row 27 0x0003020601010108011300666f72746d706101ffffffffffffffff (Refused 39) refl ∷
+    -- minus zero, the smallest and the largest subnormal, the largest numbers: they are taken
+    row 27 0x0003020601010108011300666f72746d7061018000000000000000 (Tree (script (VarInit 1 (Expression (Literal (Val 0x8000000000000000))) ∷ []))) refl ∷
+    row 27 0x0003020601010108011300666f72746d7061010000000000000001 (Tree (script (VarInit 1 (Expression (Literal (Val 0x0000000000000001))) ∷ []))) refl ∷
+    row 27 0x0003020601010108011300666f72746d706101800fffffffffffff (Tree (script (VarInit 1 (Expression (Literal (Val 0x800fffffffffffff))) ∷ []))) refl ∷
+    row 27 0x0003020601010108011300666f72746d7061017fefffffffffffff (Tree (script (VarInit 1 (Expression (Literal (Val 0x7fefffffffffffff))) ∷ []))) refl ∷
+    row 27 0x0003020601010108011300666f72746d706101ffefffffffffffff (Tree (script (VarInit 1 (Expression (Literal (Val 0xffefffffffffffff))) ∷ []))) refl ∷
+    -- 39: wherever a number stands: behind a minus, in an Array, as an index, in a Table, as an argument in a function
+    row 27 0x000401060101070112011300666f72746d70027ff0000000000000 (Refused 39) refl ∷
+    row 40 0x0005020601010108010c0213001300666f72746d706101013ff00000000000007ff8000000000000 (Refused 39) refl ∷
+    row 30 0x0004020601010108010d011300666f72746d70610101fff0000000000000 (Refused 39) refl ∷
+    row 32 0x0005020601010108010a010b011300666f72746d706101017ff0000000000000 (Refused 39) refl ∷
+    row 34 0x000602060101010901020107010f011300666f72746d706101017ff8000000000000 (Refused 39) refl ∷
+    -- in node order: 5 at a node before the number, 39 where the number comes first; the same with an operator
+    row 27 0x0003020601010108011300666f72746d7061027ff0000000000000 (Refused 5) refl ∷
+    row 29 0x00040206010102070113000800666f72746d70617ff000000000000002 (Refused 39) refl ∷
+    row 37 0x0005010601010701110213001300666f72746d700e7ff00000000000003ff0000000000000 (Refused 5) refl ∷
+    row 31 0x00060106010207011300070112011600666f72746d707ff000000000000003 (Refused 39) refl ∷
+    -- 39 before a node that may not stand there, an earlier one or the number itself; an unknown kind, a text of 41 bytes, bodies that end too late, a wrong text before 39
+    row 25 0x00030106010112011300666f72746d70027ff0000000000000 (Refused 39) refl ∷
+    row 22 0x0002010601011300666f72746d707ff0000000000000 (Refused 39) refl ∷
+    row 24 0x00030106010213001800666f72746d707ff0000000000000 (Refused 4) refl ∷
+    row 64 0x0002022906010113006161616161616161616161616161616161616161616161616161616161616161616161616161616161666f72746d707ff0000000000000 (Refused 3) refl ∷
+    row 28 0x0003020601010108011300666f72746d7061017ff000000000000000 (Refused 1) refl ∷
+    row 27 0x0003020601010108011300666f72746d7161017ff0000000000000 (Refused 3) refl ∷
     -- 4: an expression as a statement, a statement as an expression, a right side as an expression
     row 17 0x000202060101011500666f72746d706101 (Refused 4) refl ∷
     row 19 0x0003020601010107010800666f72746d706101 (Refused 4) refl ∷

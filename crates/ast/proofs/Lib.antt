@@ -10,5 +10,6 @@ mod Keeping
 mod Keys
 mod Same
 mod Order
+mod Faults
 mod Places
 mod Computed

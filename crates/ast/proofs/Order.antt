@@ -1,7 +1,7 @@
 -- The order of the checks, and the parts of the file.
 use mathlib.Core.Path.{_≡_, refl, sym, ap, _∙_}
 use mathlib.Core.Bool.{Bool, true, false}
-use mathlib.Core.List.{List}
+use mathlib.Core.List.{List, [], _∷_}
 use Prim.Native.Nat.{ℕ, _+_, _*_, _≤_, _<_, _-_}
 use native.Mathlib.Omega.{arith}
 use lib.Dec.{eqb}
@@ -10,14 +10,15 @@ use lib.Seq.{drop-drop}
 use borrow.Author.Tests.{le-leb, lt-leb, eq-eqb, ne-eqb, eqb-true, eqb-false}
 use Rattle.lent.specs.laws.Parts.{length-part}
 use Rattle.ast.specs.Tree.{Stmts}
+use Rattle.ast.specs.Node.{Node}
 use Rattle.ast.specs.Structure.{Parsed, Fails, Takes, parse}
-use Rattle.ast.specs.File.{nodeCount, textCount, contentsSize, lengths, entries, bodiesSize, nodes, nodesFrom, nodeOk, countsOk, kindsOk, lengthsOk, textsOk, fieldsOk, Read, require, structured, readTree}
-use Rattle.ast.specs.inner.Answer.{answerOf, parsed, orElse, partsAnswer}
+use Rattle.ast.specs.File.{nodeCount, textCount, contentsSize, lengths, entries, bodiesSize, nodes, nodesFrom, nodeOk, nodeFinite, countsOk, kindsOk, lengthsOk, textsOk, Read, require, checkNodes, structured, readTree}
+use Rattle.ast.specs.inner.Answer.{answerOf, parsed, orElse, faultOr, partsAnswer}
 use Rattle.ast.specs.laws.Reading.{Counts, counted}
 use Rattle.ast.specs.laws.PlainFile.{entries-slice}
 use Rattle.ast.proofs.Rooms.{to-end}
 use Rattle.ast.proofs.Cuts.{part-end}
-use Rattle.lent.specs.Lists.{sum, all}
+use Rattle.lent.specs.Lists.{sum}
 
 -- one check
 pub refuses : (t : Bool) (n r : ℕ) → t ≡ false → n ≡ orElse t n r
@@ -29,6 +30,13 @@ passes t n r e h = rw e h
 answer-require : (t : Bool) (n : ℕ) (r : Read) → answerOf (require t n r) ≡ orElse t n (answerOf r)
 answer-require true n r = refl
 answer-require false n r = refl
+
+answer-nodes : (t : ℕ) (ns : List Node) (r : Read) → answerOf (checkNodes t ns r) ≡ faultOr t ns (answerOf r)
+answer-nodes t [] r = refl
+answer-nodes t (n ∷ ns) r =
+    answer-require (nodeOk t n) 5 _
+    ∙ ap (orElse (nodeOk t n) 5) (answer-require (nodeFinite n) 39 (checkNodes t ns r)
+    ∙ ap (orElse (nodeFinite n) 39) (answer-nodes t ns r))
 
 answer-parse : (p : Parsed Stmts) → answerOf (structured p) ≡ orElse (parsed p) 4 0
 answer-parse Fails = refl
@@ -53,7 +61,7 @@ after-contents : List ℕ → ℕ
 after-contents f = partsAnswer (textCount f) (lengths f) (entries f) (drop (contentsSize f) f)
 
 inner : (f : List ℕ) → contentsSize f ≤ length f
-    → answerOf (require (kindsOk f) 4 (require (lengthsOk f) 3 (require (eqb (contentsSize f + bodiesSize f) (length f)) 1 (require (textsOk f) 3 (require (fieldsOk f) 5 (structured (parse (nodes f))))))))
+    → answerOf (require (kindsOk f) 4 (require (lengthsOk f) 3 (require (eqb (contentsSize f + bodiesSize f) (length f)) 1 (require (textsOk f) 3 (checkNodes (textCount f) (nodes f) (structured (parse (nodes f))))))))
     ≡ after-contents f
 unfolding after-contents
 inner f h =
@@ -62,7 +70,7 @@ inner f h =
     let d : drop (s + t) f ≡ drop t (drop s f) = sym (drop-drop t s f) in
     let e : eqb (s + bodiesSize f) (length f) ≡ eqb (bodiesSize f) (length (drop s f)) = ends s (bodiesSize f) (length f) h ∙ ap (eqb (bodiesSize f)) (sym (length-drop s f)) in
     let r₅ : Read = structured (parse (nodes f)) in
-    let r₄ : Read = require (fieldsOk f) 5 r₅ in
+    let r₄ : Read = checkNodes (textCount f) (nodes f) r₅ in
     let r₃ : Read = require (textsOk f) 3 r₄ in
     let r₂ : Read = require (eqb (s + bodiesSize f) (length f)) 1 r₃ in
     let r₁ : Read = require (lengthsOk f) 3 r₂ in
@@ -71,9 +79,9 @@ inner f h =
     ∙ ap (orElse (lengthsOk f) 3) (answer-require (eqb (s + bodiesSize f) (length f)) 1 r₃
     ∙ ap (λ (u : Bool). orElse u 1 (answerOf r₃)) e
     ∙ ap (orElse (eqb (bodiesSize f) (length (drop s f))) 1) (answer-require (textsOk f) 3 r₄
-    ∙ ap (orElse (textsOk f) 3) (answer-require (fieldsOk f) 5 r₅
-    ∙ ap (orElse (fieldsOk f) 5) (answer-parse (parse (nodes f)))
-    ∙ ap (λ (b : List ℕ). orElse (all (nodeOk (textCount f)) (nodesFrom (entries f) b)) 5 (orElse (parsed (parse (nodesFrom (entries f) b))) 4 0)) d))))
+    ∙ ap (orElse (textsOk f) 3) (answer-nodes (textCount f) (nodes f) r₅
+    ∙ ap (faultOr (textCount f) (nodes f)) (answer-parse (parse (nodes f)))
+    ∙ ap (λ (b : List ℕ). faultOr (textCount f) (nodesFrom (entries f) b) (orElse (parsed (parse (nodesFrom (entries f) b))) 4 0)) d))))
 
 module _ (f : List ℕ) where
   pub too-short : length f < 3 → 1 ≡ answerOf (readTree f)

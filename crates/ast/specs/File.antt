@@ -1,4 +1,5 @@
--- The tree file: document 01, "The tree file", and the refusals 1 to 5 in the order of "Lowering checks in this order". Definitions only.
+-- The tree file: document 01, "The tree file", and the refusals 1 to 5 in the order of "Lowering checks in this order", with document 02's 39 (M-104).
+-- Definitions only.
 use Prim.Native.Nat.{ℕ, _+_, _*_}
 use mathlib.Core.Bool.{Bool, true, false, not, _&&_, _||_}
 use mathlib.Core.List.{List, [], _∷_, map}
@@ -6,10 +7,10 @@ use lib.Dec.{leb, ltb, eqb}
 use lib.ListN.{length, getD, take, drop}
 use Rattle.lent.specs.Bytes.{beValue, part, sameBytes}
 use Rattle.ast.specs.Tree.{Stmts}
-use Rattle.ast.specs.Node.{kindOf, Body, nothing, elifs, texts, operator, number64, body, bodySize, Node, node}
+use Rattle.ast.specs.Node.{kindOf, Body, nothing, elifs, texts, operator, number64, body, bodySize, finiteNumber, Node, node}
 use Rattle.ast.specs.Structure.{Parsed, Fails, Takes, parse}
 use Rattle.lent.specs.Lists.{all, sum}
-use Rattle.lent.specs.Refusals.{fileCut, badCounts, badTexts, badStructure, badNumbers}
+use Rattle.lent.specs.Refusals.{fileCut, badCounts, badTexts, badStructure, badNumbers, notFinite}
 
 -- ---- the contents: node count, text count, a length per text, kind and child count per node
 
@@ -110,8 +111,16 @@ fieldOk t number64 b = true
 abbrev pub nodeOk : ℕ → Node → Bool
 nodeOk t (node k c b) = fieldOk t (body k) b
 
-abbrev pub fieldsOk : List ℕ → Bool
-fieldsOk f = all (nodeOk (textCount f)) (nodes f)
+-- 39: document 02, M-104, "A Num body that is NaN or infinite"
+abbrev pub bodyFinite : Body → List ℕ → Bool
+bodyFinite nothing b = true
+bodyFinite elifs b = true
+bodyFinite (texts n) b = true
+bodyFinite (operator n) b = true
+bodyFinite number64 b = finiteNumber (beValue b)
+
+abbrev pub nodeFinite : Node → Bool
+nodeFinite (node k c b) = bodyFinite (body k) b
 
 -- ---- reading
 
@@ -123,11 +132,17 @@ abbrev pub require : Bool → ℕ → Read → Read
 require true n r = r
 require false n r = Refused n
 
+-- 5 and 39, node by node: document 02, M-104, "39, checked with 5, in node order, the lower number first at one node"; t is the text count, r what the checks
+-- behind them give
+abbrev pub checkNodes : ℕ → List Node → Read → Read
+checkNodes t [] r = r
+checkNodes t (n ∷ ns) r = require (nodeOk t n) badNumbers (require (nodeFinite n) notFinite (checkNodes t ns r))
+
 abbrev pub structured : Parsed Stmts → Read
 structured Fails = Refused badStructure
 structured (Takes t ns) = Tree t
 
--- "1 (under 3 bytes); 2; 1 (contents); 4 (unknown kind); 3 (length); 1 (bodies); 3; 5; 4"
+-- "1 (under 3 bytes); 2; 1 (contents); 4 (unknown kind); 3 (length); 1 (bodies); 3; 5; 4", 39 with 5
 unfoldable pub readTree : List ℕ → Read
 readTree f =
     require (leb 3 (length f)) fileCut
@@ -137,5 +152,5 @@ readTree f =
     (require (lengthsOk f) badTexts
     (require (eqb (contentsSize f + bodiesSize f) (length f)) fileCut
     (require (textsOk f) badTexts
-    (require (fieldsOk f) badNumbers
+    (checkNodes (textCount f) (nodes f)
     (structured (parse (nodes f))))))))))

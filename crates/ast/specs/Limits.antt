@@ -1,9 +1,10 @@
 -- Measures of a tree that the file's limits speak of: document 01, "Numbers given for the input" (depth 32), and the table of "The tree file", column "Body"
--- (text numbers, 8 bytes). Definitions only.
+-- (text numbers, 8 bytes); document 02, M-104 (finite numbers). Definitions only.
 use Prim.Native.Nat.{ℕ, suc, max, _^_}
 use mathlib.Core.Bool.{Bool, true, _&&_}
 use mathlib.Core.List.{List, [], _∷_}
 use lib.Dec.{ltb}
+use Rattle.ast.specs.Node.{finiteNumber}
 use Rattle.ast.specs.Tree.{Lit, Val, Text, Truth, Expr, Literal, Name, BinaryExpr, UnaryExpr, VarAssign, ArrayMut, FnCall, Rhs, Expression, Table, Array, ArrayAccess}
 use Rattle.ast.specs.Tree.{Exprs, noExprs, moreExprs, Items, noItems, moreItems, Source, OverName, OverCall}
 use Rattle.ast.specs.Tree.{Stmt, Block, IfStmt, ForStmt, Return, ReturnExpr, ExprStmt, VarDecl, VarInit, FnDecl, Stmts, noStmts, moreStmts, Rest, Else, Elif}
@@ -137,3 +138,7 @@ textsBelow n t = every (λ x. ltb x n) (λ v. true) t
 -- every number has 8 bytes
 abbrev pub numbersFit : Stmts → Bool
 numbersFit t = every (λ x. true) (λ v. ltb v (2 ^ 64)) t
+
+-- document 02, M-104: every number is finite
+abbrev pub numbersFinite : Stmts → Bool
+numbersFinite t = every (λ x. true) finiteNumber t

@@ -1,7 +1,10 @@
--- The nodes of the tree file: document 01, "The tree file", the table of kinds. Definitions only.
+-- The nodes of the tree file: document 01, "The tree file", the table of kinds; which numbers are finite. Definitions only.
 use Prim.Native.Nat.{ℕ, _-_}
+use mathlib.Core.Bool.{Bool}
 use mathlib.Core.List.{List, [], _∷_}
 use lib.ListN.{getD}
+use lib.Ieee.{ofBits, binary64}
+use lib.Ieee.Scale.{finite}
 
 -- "Statements: 2, 3, 5 to 9. Expressions: 14 to 23. A right side may also be 10, 12, 13. Program is node 0 only."
 pub data StmtKind : Type 0 where
@@ -97,6 +100,10 @@ bodySize elifs = 1
 bodySize (texts n) = n
 bodySize (operator n) = 1
 bodySize number64 = 8
+
+-- document 02, M-104: the 8 bytes v of a number are no NaN's and no infinity's, by IEEE 754
+abbrev pub finiteNumber : ℕ → Bool
+finiteNumber v = finite (ofBits binary64 v)
 
 -- a node: its kind, its child count, its body's bytes
 pub data Node : Type 0 where

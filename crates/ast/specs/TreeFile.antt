@@ -12,7 +12,7 @@ use Rattle.ast.specs.Tree.{Stmts}
 use Rattle.ast.specs.Structure.{stmtsOk}
 use Rattle.ast.specs.File.{between, ordered}
 use Rattle.ast.specs.Flat.{flat, entryBytes, bodyBytes}
-use Rattle.ast.specs.Limits.{depth, textsBelow, numbersFit}
+use Rattle.ast.specs.Limits.{depth, textsBelow, numbersFit, numbersFinite}
 use Rattle.lent.specs.Lists.{all}
 
 -- "2 bytes node count, 1 byte text count, a length byte per text, then kind byte and child-count byte per node, in preorder. Then the bodies: texts, then nodes."
@@ -42,4 +42,5 @@ pub record TreeFits (n : ℕ) (t : Stmts) : Type 0 where
   pub structure : stmtsOk t 8 false ≡ true
   pub names : T (textsBelow n t)
   pub numbers : T (numbersFit t)
+  pub finite : T (numbersFinite t)
   pub children : T (all childrenByte (flat t))

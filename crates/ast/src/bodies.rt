@@ -1,12 +1,13 @@
-// The bodies: the sizes that the contents give them, and the nodes' text numbers and operators.
+// The bodies: the sizes that the contents give them, and the nodes' text numbers, operators and numbers.
 ghost use mathlib.Core.Path.{_≡_};
 ghost use mathlib.Core.List.{map};
 ghost use Prim.Native.Nat.{_≤_, _<_};
 ghost use lib.ListN.{length, take};
 ghost use Rattle.ast.specs.Node.{kindOf, body, bodySize};
-ghost use Rattle.ast.specs.File.{firsts, fieldOk, nodeOk, nodesFrom};
+ghost use Rattle.ast.specs.File.{firsts, fieldOk, bodyFinite, nodesFrom};
+ghost use Rattle.ast.specs.inner.Answer.{faultOr};
 ghost use Rattle.ast.specs.inner.Room.{Room};
-ghost use Rattle.lent.specs.Lists.{sum, all};
+ghost use Rattle.lent.specs.Lists.{sum};
 
 // Bytes of a node's body, by kind.
 const SIZES: [u8; 24] = [
@@ -96,19 +97,34 @@ pub fn field_ok(texts: u64, kind: u8, bodies: &[u8]) -> bool
     true
 }
 
-// The fields of all nodes.
-pub fn fields_ok(texts: u64, entries: &[u8], bodies: &[u8]) -> bool
-    requires { ⌜ (length (now entries) ≤ 2048) × Room (now entries) (now bodies) ⌝ }
-    ensures { λ r. ⌜ r ≡ all (nodeOk texts) (nodesFrom (now (entries .entry)) (now (bodies .entry))) ⌝ }
+// 39: a number that is a NaN or infinite. bodies starts at the node's own.
+pub fn finite(kind: u8, bodies: &[u8]) -> bool
+    requires { ⌜ (kind < 24) × (bodySize (body (kindOf kind)) ≤ length (now bodies)) ⌝ }
+    ensures { λ r. ⌜ r ≡ bodyFinite (body (kindOf kind)) (take (bodySize (body (kindOf kind))) (now (bodies .entry))) ⌝ }
 {
-    let mut ok = true;
+    if kind == 19 {
+        return numeric::finite(lent::get_u64(bodies, 0));
+    }
+    true
+}
+
+// 5 and 39, in node order: the number of the first fault, or 0.
+pub fn first_fault(texts: u64, entries: &[u8], bodies: &[u8]) -> u64
+    requires { ⌜ (length (now entries) ≤ 2048) × Room (now entries) (now bodies) ⌝ }
+    ensures { λ r. ⌜ r ≡ faultOr texts (nodesFrom (now (entries .entry)) (now (bodies .entry))) 0 ⌝ }
+{
     let mut at = 0;
     let mut i = 0;
     while i < entries.len() {
         let kind = entries[i];
-        ok = ok & field_ok(texts, kind, &bodies[at..]);
+        if !field_ok(texts, kind, &bodies[at..]) {
+            return 5;
+        }
+        if !finite(kind, &bodies[at..]) {
+            return 39;
+        }
         at += size(kind);
         i += 2;
     }
-    ok
+    0
 }

@@ -1,4 +1,4 @@
-// The tree file (document 01, "The tree file"): the refusals 1 to 5.
+// The tree file (document 01, "The tree file"): the refusals 1 to 5, and 39 (document 02, M-104).
 pub mod bodies;
 mod contents;
 pub mod node;
@@ -14,7 +14,7 @@ ghost use Rattle.ast.specs.inner.Room.{Room};
 ghost use Rattle.ast.specs.inner.Answer.{answerOf, partsAnswer, bodiesAnswer};
 ghost use Rattle.lent.specs.Lists.{sum};
 
-// The checks of the bodies: texts (3), fields (5), structure (4). total is the size of the texts.
+// The checks of the bodies: texts (3), the nodes' own (5 and 39), structure (4). total is the size of the texts.
 fn read_bodies(count: u64, lengths: &[u8], entries: &[u8], total: usize, bodies: &[u8]) -> u64
     requires { ⌜ (count ≤ 64) × (1 ≤ length (now lengths)) × (length (now lengths) ≤ 64) × (length (now entries) ≤ 2048) ⌝ }
     requires { ⌜ (total ≡ sum (now lengths)) × (total ≤ length (now bodies)) × Room (now entries) (drop total (now bodies)) ⌝ }
@@ -23,8 +23,9 @@ fn read_bodies(count: u64, lengths: &[u8], entries: &[u8], total: usize, bodies:
     if !texts::texts_ok(lengths, total, bodies) {
         return 3;
     }
-    if !bodies::fields_ok(count, entries, &bodies[total..]) {
-        return 5;
+    let fault = bodies::first_fault(count, entries, &bodies[total..]);
+    if fault != 0 {
+        return fault;
     }
     if !structure::structure_ok(entries, &bodies[total..]) {
         return 4;
@@ -51,7 +52,7 @@ fn read_parts(count: u64, lengths: &[u8], entries: &[u8], nodes: u64, bodies: &[
     read_bodies(count, lengths, entries, total, bodies)
 }
 
-// The number of the first refusal in document 01's order of checks, or 0: the file holds a tree.
+// The number of the first refusal in the order of the checks, or 0: the file holds a tree.
 pub fn read(file: &[u8]) -> u64
     ensures { λ r. ⌜ r ≡ answerOf (readTree (now (file .entry))) ⌝ }
 {

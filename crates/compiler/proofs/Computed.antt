@@ -4,7 +4,7 @@
 -- it. The limits behind the rows are document 01's, on trees made by repetition; they have no file there.
 use Prim.Native.Nat.{ℕ, zero, suc}
 use mathlib.Core.Path.{_≡_, refl}
-use mathlib.Core.Bool.{true, false}
+use mathlib.Core.Bool.{Bool, true, false}
 use mathlib.Core.List.{List, [], _∷_, map}
 use lib.Ieee.{ofInt, ofBits, binary64}
 use Rattle.lent.specs.Bytes.{beBytes}
@@ -17,6 +17,7 @@ use Rattle.ast.specs.Tree.{Literal, Name, BinaryExpr, UnaryExpr, VarAssign, Arr
 use Rattle.ast.specs.Tree.{noExprs, moreExprs, noItems, moreItems, OverName, OverCall}
 use Rattle.ast.specs.Tree.{Stmt, Block, IfStmt, ForStmt, Return, ReturnExpr, ExprStmt, VarDecl, VarInit, FnDecl, Stmts, noStmts, moreStmts, Else, Elif}
 use Rattle.ast.specs.File.{readTree, Tree}
+use Rattle.compiler.specs.Literals.{literal, finiteSingle}
 use Rattle.compiler.specs.Lower.{lower, Lowered, refused, lowered}
 
 -- ---- trees in short
@@ -506,3 +507,12 @@ instruction-before-below = refl
 
 below-at-the-same-node : number (lower (times 1024 instruction below)) ≡ 6
 below-at-the-same-node = refl
+
+-- ---- which literals are finite: document 02, M-104
+
+abbrev finiteLit : Lit → Bool
+finiteLit l = finiteSingle (literal l)
+
+finite-literals : (finiteLit (Val 0x7fefffffffffffff) ≡ true) × (finiteLit (Val 0x7ff0000000000000) ≡ false) × (finiteLit (Val 0xfff8000000000001) ≡ false)
+unfolding ofBits
+finite-literals = (refl, refl, refl)

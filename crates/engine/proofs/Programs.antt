@@ -68,6 +68,15 @@ programs =
     instr 0 (Binary Neq 1 1 4) ∷
     [])
     "end done 5\nheld 0\nreg 0 Num:4000000000000000\nreg 1 Num:7ff8000000000000\nreg 2 Bl:0\nreg 3 Bl:1\nreg 4 Bl:1\nstack\ncalls\nposition 5\ncount 5\n" ∷
+    -- infinities and the NaN as literals: no tree has them (document 02, M-104), a program may
+    programRow 0 9 (
+    instr 0 (Stc (One (Num (ofBits binary64 0x7ff0000000000000))) 1) ∷
+    instr 0 (Stc (Arr (Num (ofBits binary64 0xfff0000000000000) ∷ Num (ofBits binary64 0x7ff8000000000000) ∷ [])) 2) ∷
+    instr 0 (Ldc 0 (One (Num (ofBits binary64 0x7ff0000000000000)))) ∷
+    instr 0 (Ldc 1 (One (Num (ofBits binary64 0xfff0000000000000)))) ∷
+    instr 0 (Binary Add 0 1 2) ∷
+    [])
+    "end done 5\nheld 2\nname 1 Num:7ff0000000000000\nname 2 Arr:[Num:fff0000000000000,Num:7ff8000000000000]\nreg 0 Num:7ff0000000000000\nreg 1 Num:fff0000000000000\nreg 2 Num:7ff8000000000000\nstack\ncalls\nposition 5\ncount 5\n" ∷
     -- Tblg, a key that is there
     programRow 0 9 (
     instr 0 (Stc (Tab []) 1) ∷

@@ -107,10 +107,10 @@ rows =
     row "000202060101010800666f72746d706101"
     "start 0\nop 0 0 Stc Null 1\nlabel 0 0\nbound 1\nend done 1\nheld 1\nname 1 Null\n"
     "stack\ncalls\nposition 1\ncount 1\n" ∷
-    -- minus zero and a NaN pattern
-    row "000a04060101010103080112011300080113000801110213001300666f72746d706162630102000000000000000002fff4000000000001030400000000000000000000000000000000"
-    "start 0\nop 0 0 Ldc 0 Num:0000000000000000\nop 1 0 Unary Nneg 0 1\nop 2 0 Str 1 1\nop 3 0 Stc Num:7ff8000000000000 2\nop 4 0 Ldc 2 Num:0000000000000000\nop 5 0 Ldc 3 Num:0000000000000000\nop 6 0 Binary Div 2 3 4\nop 7 0 Str 4 3\nlabel 0 0\nbound 8\nend done 8\nheld 3\nname 1 Num:8000000000000000\nname 2 Num:7ff8000000000000\nname 3 Num:7ff8000000000000\n"
-    "reg 0 Num:0000000000000000\nreg 1 Num:8000000000000000\nreg 2 Num:0000000000000000\nreg 3 Num:0000000000000000\nreg 4 Num:7ff8000000000000\nstack\ncalls\nposition 8\ncount 8\n" ∷
+    -- minus zero, and a NaN by arithmetic
+    row "00080306010101020801120113000801110213001300666f72746d70616201020000000000000000020400000000000000000000000000000000"
+    "start 0\nop 0 0 Ldc 0 Num:0000000000000000\nop 1 0 Unary Nneg 0 1\nop 2 0 Str 1 1\nop 3 0 Ldc 2 Num:0000000000000000\nop 4 0 Ldc 3 Num:0000000000000000\nop 5 0 Binary Div 2 3 4\nop 6 0 Str 4 2\nlabel 0 0\nbound 7\nend done 7\nheld 2\nname 1 Num:8000000000000000\nname 2 Num:7ff8000000000000\n"
+    "reg 0 Num:0000000000000000\nreg 1 Num:8000000000000000\nreg 2 Num:0000000000000000\nreg 3 Num:0000000000000000\nreg 4 Num:7ff8000000000000\nstack\ncalls\nposition 7\ncount 7\n" ∷
     -- arithmetic
     row "0016060601010101010105080111021300130008011102130013000801110213001300080111021300130008011102120113001300666f72746d70616263646501013ff8000000000000400000000000000002023ff00000000000004004000000000000030340080000000000003fb999999999999a04043ff0000000000000400800000000000005050240160000000000004000000000000000"
     "start 0\nop 0 0 Ldc 0 Num:3ff8000000000000\nop 1 0 Ldc 1 Num:4000000000000000\nop 2 0 Binary Add 0 1 2\nop 3 0 Str 2 1\nop 4 0 Ldc 3 Num:3ff0000000000000\nop 5 0 Ldc 4 Num:4004000000000000\nop 6 0 Binary Sub 3 4 5\nop 7 0 Str 5 2\nop 8 0 Ldc 6 Num:4008000000000000\nop 9 0 Ldc 7 Num:3fb999999999999a\nop 10 0 Binary Mul 6 7 8\nop 11 0 Str 8 3\nop 12 0 Ldc 9 Num:3ff0000000000000\nop 13 0 Ldc 10 Num:4008000000000000\nop 14 0 Binary Div 9 10 11\nop 15 0 Str 11 4\nop 16 0 Ldc 12 Num:4016000000000000\nop 17 0 Unary Nneg 12 13\nop 18 0 Ldc 14 Num:4000000000000000\nop 19 0 Binary Modu 13 14 15\nop 20 0 Str 15 5\nlabel 0 0\nbound 21\nend done 21\nheld 5\nname 1 Num:400c000000000000\nname 2 Num:bff8000000000000\nname 3 Num:3fd3333333333334\nname 4 Num:3fd5555555555555\nname 5 Num:bff8000000000000\n"
@@ -124,9 +124,13 @@ rows =
     "start 0\nop 0 0 Ldc 0 Bl:1\nop 1 0 Ldc 1 Bl:1\nop 2 0 Unary Lneg 1 2\nop 3 0 Binary Land 0 2 3\nop 4 0 Str 3 1\nop 5 0 Ldc 4 Bl:0\nop 6 0 Ldc 5 Bl:1\nop 7 0 Binary Lor 4 5 6\nop 8 0 Str 6 2\nlabel 0 0\nbound 9\nend done 9\nheld 2\nname 1 Bl:0\nname 2 Bl:1\n"
     "reg 0 Bl:1\nreg 1 Bl:1\nreg 2 Bl:0\nreg 3 Bl:0\nreg 4 Bl:0\nreg 5 Bl:1\nreg 6 Bl:1\nstack\ncalls\nposition 9\ncount 9\n" ∷
     -- comparisons with a NaN
-    row "000b040601010101030801130008011102150015000801110215001300666f72746d70616263017ff8000000000000020601010309013ff0000000000000"
-    "start 0\nop 0 0 Stc Num:7ff8000000000000 1\nop 1 0 Ldn 0 1\nop 2 0 Ldn 1 1\nop 3 0 Binary Eq 0 1 2\nop 4 0 Str 2 2\nop 5 0 Ldn 3 1\nop 6 0 Ldc 4 Num:3ff0000000000000\nop 7 0 Binary GtEq 3 4 5\nop 8 0 Str 5 3\nlabel 0 0\nbound 9\nend done 9\nheld 3\nname 1 Num:7ff8000000000000\nname 2 Bl:0\nname 3 Bl:0\n"
-    "reg 0 Num:7ff8000000000000\nreg 1 Num:7ff8000000000000\nreg 2 Bl:0\nreg 3 Num:7ff8000000000000\nreg 4 Num:3ff0000000000000\nreg 5 Bl:0\nstack\ncalls\nposition 9\ncount 9\n" ∷
+    row "000d04060101010103080111021300130008011102150015000801110215001300666f72746d70616263010400000000000000000000000000000000020601010309013ff0000000000000"
+    "start 0\nop 0 0 Ldc 0 Num:0000000000000000\nop 1 0 Ldc 1 Num:0000000000000000\nop 2 0 Binary Div 0 1 2\nop 3 0 Str 2 1\nop 4 0 Ldn 3 1\nop 5 0 Ldn 4 1\nop 6 0 Binary Eq 3 4 5\nop 7 0 Str 5 2\nop 8 0 Ldn 6 1\nop 9 0 Ldc 7 Num:3ff0000000000000\nop 10 0 Binary GtEq 6 7 8\nop 11 0 Str 8 3\nlabel 0 0\nbound 12\nend done 12\nheld 3\nname 1 Num:7ff8000000000000\nname 2 Bl:0\nname 3 Bl:0\n"
+    "reg 0 Num:0000000000000000\nreg 1 Num:0000000000000000\nreg 2 Num:7ff8000000000000\nreg 3 Num:7ff8000000000000\nreg 4 Num:7ff8000000000000\nreg 5 Bl:0\nreg 6 Num:7ff8000000000000\nreg 7 Num:3ff0000000000000\nreg 8 Bl:0\nstack\ncalls\nposition 12\ncount 12\n" ∷
+    -- infinities arise in arithmetic and remain: 1e308 * 10, its negation; their sum is a NaN
+    row "000c0406010101010308011102130013000801120115000801110215001500666f72746d7061626301037fe1ccf385ebc8a0402400000000000002020103010102"
+    "start 0\nop 0 0 Ldc 0 Num:7fe1ccf385ebc8a0\nop 1 0 Ldc 1 Num:4024000000000000\nop 2 0 Binary Mul 0 1 2\nop 3 0 Str 2 1\nop 4 0 Ldn 3 1\nop 5 0 Unary Nneg 3 4\nop 6 0 Str 4 2\nop 7 0 Ldn 5 1\nop 8 0 Ldn 6 2\nop 9 0 Binary Add 5 6 7\nop 10 0 Str 7 3\nlabel 0 0\nbound 11\nend done 11\nheld 3\nname 1 Num:7ff0000000000000\nname 2 Num:fff0000000000000\nname 3 Num:7ff8000000000000\n"
+    "reg 0 Num:7fe1ccf385ebc8a0\nreg 1 Num:4024000000000000\nreg 2 Num:7ff0000000000000\nreg 3 Num:7ff0000000000000\nreg 4 Num:fff0000000000000\nreg 5 Num:7ff0000000000000\nreg 6 Num:fff0000000000000\nreg 7 Num:7ff8000000000000\nstack\ncalls\nposition 11\ncount 11\n" ∷
     -- Nneg on a yes/no
     row "00040206010101080112011600666f72746d70610102"
     "start 0\nop 0 0 Ldc 0 Bl:1\nop 1 0 Unary Nneg 0 1\nop 2 0 Str 1 1\nlabel 0 0\nbound 3\nend stopped 1 27 2\nheld 0\n"
@@ -192,9 +196,9 @@ rows =
     "start 0\nop 0 0 Nop\nop 1 0 Stc Null 1\nlabel 0 0\nbound 2\nend done 2\nheld 1\nname 1 Null\n"
     "stack\ncalls\nposition 2\ncount 2\n" ∷
     -- a NaN is no index: 38
-    row "0009020601010208010c021300130007010e0213001300666f72746d706101013ff00000000000004000000000000000017ff80000000000004008000000000000"
-    "start 0\nop 0 0 Stc Arr:[Num:3ff0000000000000,Num:4000000000000000] 1\nop 1 0 Ldc 0 Num:4008000000000000\nop 2 0 Ldc 1 Num:7ff8000000000000\nop 3 0 Upda 1 1 0\nlabel 0 0\nbound 4\nend stopped 3 38 4\nheld 1\nname 1 Arr:[Num:3ff0000000000000,Num:4000000000000000]\n"
-    "reg 0 Num:4008000000000000\nreg 1 Num:7ff8000000000000\nstack\ncalls\nposition 3\ncount 3\n" ∷
+    row "000b020601010208010c021300130007010e021102130013001300666f72746d706101013ff000000000000040000000000000000104000000000000000000000000000000004008000000000000"
+    "start 0\nop 0 0 Stc Arr:[Num:3ff0000000000000,Num:4000000000000000] 1\nop 1 0 Ldc 0 Num:4008000000000000\nop 2 0 Ldc 1 Num:0000000000000000\nop 3 0 Ldc 2 Num:0000000000000000\nop 4 0 Binary Div 1 2 3\nop 5 0 Upda 1 3 0\nlabel 0 0\nbound 6\nend stopped 5 38 6\nheld 1\nname 1 Arr:[Num:3ff0000000000000,Num:4000000000000000]\n"
+    "reg 0 Num:4008000000000000\nreg 1 Num:0000000000000000\nreg 2 Num:0000000000000000\nreg 3 Num:7ff8000000000000\nstack\ncalls\nposition 5\ncount 5\n" ∷
     -- nor is a number above 2^64
     row "0008020601010208010c01130007010e0213001300666f72746d706101013ff00000000000000146293e5939a08cea4008000000000000"
     "start 0\nop 0 0 Stc Arr:[Num:3ff0000000000000] 1\nop 1 0 Ldc 0 Num:4008000000000000\nop 2 0 Ldc 1 Num:46293e5939a08cea\nop 3 0 Upda 1 1 0\nlabel 0 0\nbound 4\nend stopped 3 38 4\nheld 1\nname 1 Arr:[Num:3ff0000000000000]\n"
@@ -374,6 +378,30 @@ rows =
     -- refused 5 before 4
     row "0005010601010701120213001300666f72746d70033ff00000000000003ff0000000000000"
     "refused 5\n"
+    "" ∷
+    -- refused 39: an infinity
+    row "0003020601010108011300666f72746d7061017ff0000000000000"
+    "refused 39\n"
+    "" ∷
+    -- refused 39: a NaN in an Array
+    row "0005020601010108010c0213001300666f72746d706101013ff00000000000007ff8000000000000"
+    "refused 39\n"
+    "" ∷
+    -- refused 39 before 5, in node order
+    row "00040206010102070113000800666f72746d7061fff000000000000002"
+    "refused 39\n"
+    "" ∷
+    -- refused 5 before 39, in node order
+    row "0003020601010108011300666f72746d7061027ff0000000000000"
+    "refused 5\n"
+    "" ∷
+    -- refused 39 before 4 at an earlier node
+    row "00030106010112011300666f72746d70027ff0000000000000"
+    "refused 39\n"
+    "" ∷
+    -- refused 39 before 4 at the same node
+    row "0002010601011300666f72746d707ff0000000000000"
+    "refused 39\n"
     "" ∷
     -- refused 4: a statement under ExprStmt
     row "0003020601010107010800666f72746d706101"

@@ -39,7 +39,7 @@ long-enough : (n : ℕ) → n ≤ length (zeros n)
 long-enough n = let z : ℕ = 0 in omega (arith, length-replicate n z)
 
 example-starts : Starts tree file (zeros programSize) (zeros stateSize)
-unfolding readTree
+unfolding readTree ofBits
 example-starts = script-starts file (zeros programSize) (zeros stateSize) (beBytes-bytes 27 digits) refl tt refl (long-enough programSize) (long-enough stateSize)
 
 -- the program as lower leaves it

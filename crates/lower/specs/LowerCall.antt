@@ -23,7 +23,8 @@ pub record Answered : Type 0 where
 abbrev pub answered : ℕ → List ℕ → Answered
 answered n b = record { result = n; buffer = b }
 
--- ---- lower(file, program): 9; 1 to 5; 6 or 7. "After 1 to 7 the first 40,960 bytes of the program buffer are zero"
+-- ---- lower(file, program): 9; 1 to 5 and 39; 6 or 7. "After 1 to 7 the first 40,960 bytes of the program buffer are zero"; after 39 it "is left as after 5"
+-- (document 02, M-104)
 
 abbrev pub lowerMade : Lowered → List ℕ → Answered
 lowerMade (refused n) b = answered n (over (zeros programSize) b)

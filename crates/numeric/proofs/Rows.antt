@@ -1,11 +1,13 @@
 -- Indexes from numbers, computed: document 02, M-103, "Whole numbers from 0 up to below 2^64 pass, and minus zero is 0. NaN, negatives, fractions, infinities
--- and larger numbers stop the step." A row has a number's bit pattern and its index; each border has its neighbours. oracle/ compares every row with its own
--- rule.
+-- and larger numbers stop the step." A row has a number's bit pattern and its index; each border has its neighbours. And which patterns are a finite number's:
+-- document 02, M-104, "A Num body that is NaN or infinite". oracle/ compares every row with rules of its own.
 use Prim.Native.Nat.{ℕ}
 use mathlib.Core.Path.{_≡_, refl}
+use mathlib.Core.Bool.{Bool, true, false}
 use mathlib.Core.List.{List, [], _∷_}
 use mathlib.Core.Option.{Option, none, some}
 use lib.Ieee.{ofBits, binary64}
+use lib.Ieee.Scale.{finite}
 use Rattle.numeric.specs.Index.{indexOf}
 
 data Row : Type 0 where
@@ -70,4 +72,37 @@ rows =
     row 0xfff8000000000000 none refl ∷
     row 0x7ff0000000000001 none refl ∷
     row 0x7fffffffffffffff none refl ∷
+    []
+
+data Pattern : Type 0 where
+  pattern : (bits : ℕ) (answer : Bool) → finite (ofBits binary64 bits) ≡ answer → Pattern
+
+patterns : List Pattern
+unfolding ofBits
+patterns =
+    -- the zeros, the smallest and the largest subnormals, the smallest that is none, 1
+    pattern 0x0000000000000000 true refl ∷
+    pattern 0x8000000000000000 true refl ∷
+    pattern 0x0000000000000001 true refl ∷
+    pattern 0x8000000000000001 true refl ∷
+    pattern 0x000fffffffffffff true refl ∷
+    pattern 0x800fffffffffffff true refl ∷
+    pattern 0x0010000000000000 true refl ∷
+    pattern 0x3ff0000000000000 true refl ∷
+    -- the largest numbers, and those whose exponent is one below all ones
+    pattern 0x7fefffffffffffff true refl ∷
+    pattern 0xffefffffffffffff true refl ∷
+    pattern 0x7fe0000000000000 true refl ∷
+    pattern 0xffe0000000000000 true refl ∷
+    -- the infinities
+    pattern 0x7ff0000000000000 false refl ∷
+    pattern 0xfff0000000000000 false refl ∷
+    -- NaNs: the first and the last behind an infinity, the quiet one, the last that is not quiet
+    pattern 0x7ff0000000000001 false refl ∷
+    pattern 0xfff0000000000001 false refl ∷
+    pattern 0x7ff7ffffffffffff false refl ∷
+    pattern 0x7ff8000000000000 false refl ∷
+    pattern 0xfff8000000000000 false refl ∷
+    pattern 0x7fffffffffffffff false refl ∷
+    pattern 0xffffffffffffffff false refl ∷
     []

@@ -3,6 +3,7 @@ ghost use mathlib.Core.Path.{_≡_};
 ghost use Prim.Native.Nat.{_*_, _%_, _^_, _≤_, _<_};
 ghost use lib.Ieee as Ieee;
 ghost use lib.Ieee.{binary64};
+ghost use lib.Ieee.Scale as Scale;
 ghost use Rattle.numeric.specs.inner.Fields.{leading, infinity, significand, exponent, units};
 ghost use Rattle.numeric.specs.inner.Reciprocal.{Reciprocal};
 ghost use Rattle.numeric.specs.Remainder as Rule;
@@ -96,6 +97,13 @@ pub fn from_bits(n: u64) -> f64
         return 0.0 / 0.0;
     }
     f64::from_bits(n)
+}
+
+// Whether a bit pattern is a finite number's: neither a NaN's nor an infinity's.
+pub fn finite(n: u64) -> bool
+    ensures { λ r. ⌜ r ≡ Scale.finite (Ieee.ofBits binary64 n) ⌝ }
+{
+    n % SIGN < INFINITY
 }
 
 // The significand of a finite number's pattern without its sign.

@@ -118,6 +118,7 @@ rows =
     -- 3 Ldc, 9 Stc: a number of any pattern, a text, a yes/no, nothing, whose number is not looked at
     row 0x030103ff5f0000004000000000000000 0 0 0 (some (instr 1023 (Ldc 95 (One (Num (ofBits binary64 0x4000000000000000)))))) refl ∷
     row 0x090103ff3f000000fff4000000000001 0 0 0 (some (instr 1023 (Stc (One (Num (ofBits binary64 0xfff4000000000001))) 63))) refl ∷
+    row 0x090103ff3f0000007ff0000000000000 0 0 0 (some (instr 1023 (Stc (One (Num (ofBits binary64 0x7ff0000000000000))) 63))) refl ∷
     row 0x030203ff01000000000000000000003f 0 0 0 (some (instr 1023 (Ldc 1 (One (Text 63))))) refl ∷
     row 0x030203ff010000000000000000000040 0 0 0 none refl ∷
     row 0x090203ff010000000000010000000000 0 0 0 none refl ∷
@@ -136,6 +137,7 @@ rows =
     -- an array: its items are the entries of the pool from the record's own on; single, 24 at most
     row 0x030503ff050000030000000000000000 0 48 0x020000000000000000000000000000090300000000000000000000000000000104000000000000000000000000000000 (some (instr 1023 (Ldc 5 (Arr (Text 9 ∷ Bl true ∷ Null ∷ []))))) refl ∷
     row 0x090503ff050000020000000000000001 1 48 0x0400000000000000000000000000000001ffffffffffffff3ff00000000000000200000000000000000000000000003f (some (instr 1023 (Stc (Arr (Num (ofBits binary64 0x3ff0000000000000) ∷ Text 63 ∷ [])) 5))) refl ∷
+    row 0x090503ff010000020000000000000000 0 32 0x0100000000000000fff000000000000001000000000000007ff0000000000001 (some (instr 1023 (Stc (Arr (Num (ofBits binary64 0xfff0000000000000) ∷ Num (ofBits binary64 0x7ff0000000000001) ∷ [])) 1))) refl ∷
     row 0x090503ff050000000000000000000002 2 0 0 (some (instr 1023 (Stc (Arr []) 5))) refl ∷
     row 0x090503ff050000000000000000000001 2 0 0 none refl ∷
     row 0x090503ff050000000000000000000003 2 0 0 none refl ∷

@@ -6,7 +6,7 @@ use engine::Last;
 // The steps that a file's program is given.
 const STEPS: u64 = 100000;
 
-// The places of the counts: 0 done, 1 to 10 refused, 11 spent, 20 to 36 and 38 stopped; then records, steps, names held, runs in portions and checksums that agree.
+// The places of the counts: 0 done, 1 to 10 and 39 refused, 11 spent, 20 to 36 and 38 stopped; then records, steps, names held, runs in portions and checksums that agree.
 const RECORDS: usize = 40;
 
 const TAKEN: usize = 41;
@@ -347,7 +347,7 @@ fn words(at: usize) {
         io::write_all(1, b"done");
         return;
     }
-    if at < 11 {
+    if (at < 11) | (at == 39) {
         io::write_all(1, b"refused ");
         io::print_decimal(1, at as u64);
         return;

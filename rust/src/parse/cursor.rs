@@ -143,8 +143,7 @@ impl<'l> Cursor<'l> {
     pub(super) fn negative(&self) -> Option<u64> {
         match self.second() {
             Some(Token::Number(pattern)) if self.is("-") => {
-                let number = f64::from_bits(*pattern);
-                (!number.is_nan()).then(|| (-number).to_bits())
+                Some((-f64::from_bits(*pattern)).to_bits())
             }
             _ => None,
         }
@@ -184,7 +183,7 @@ fn spelled(token: &Token) -> String {
         Token::Word(word) => word.clone(),
         Token::Name(name) => crate::show::name(name),
         Token::Text(text) => crate::show::quoted(text),
-        Token::Number(pattern) => decimal::write_pattern(*pattern),
+        Token::Number(pattern) => decimal::write(f64::from_bits(*pattern)),
         Token::Sign(sign) => sign.to_string(),
     }
 }

@@ -11,6 +11,8 @@ const NESTING: usize = 100;
 
 const NOT_INSIDE: &str = "arrays and tables stand only behind the = of a name";
 
+const ITEMS: &str = "the items of an array are numbers, texts, true and false";
+
 impl Parser<'_> {
     /// A name or an item that is set, or an expression: a statement, or what stands in parentheses.
     pub(super) fn setting_or_expression(&mut self, cursor: &mut Cursor) -> Result<Parts, Error> {
@@ -165,6 +167,10 @@ impl Parser<'_> {
         let mut items = Vec::new();
         while !cursor.takes("]") {
             items.push(self.array_item(cursor)?);
+            if cursor.operator().is_some() {
+                let why = format!("{ITEMS}; others are set afterwards, as in cells[1] = 1 / 0");
+                return Err(cursor.unexpected(&why));
+            }
             cursor.separator("]")?;
         }
         let own = if cursor.is_word("as") {
@@ -177,21 +183,18 @@ impl Parser<'_> {
     }
 
     fn array_item(&mut self, cursor: &mut Cursor) -> Result<Parts, Error> {
-        let negative = cursor.is("-") && matches!(cursor.second(), Some(Token::Number(_)));
+        if let Some(pattern) = cursor.negative() {
+            return self.negative_number(cursor, pattern);
+        }
         let value = match cursor.peek() {
             Some(Token::Number(_) | Token::Text(_)) => true,
             Some(Token::Word(word)) => word == "true" || word == "false",
-            _ => negative,
+            _ => false,
         };
         if !value {
-            let why = "the items of an array are numbers, texts, true and false";
-            return Err(cursor.unexpected(why));
+            return Err(cursor.unexpected(ITEMS));
         }
-        match (cursor.negative(), cursor.peek()) {
-            (Some(pattern), _) => self.negative_number(cursor, pattern),
-            (None, Some(Token::Sign(_))) => Err(cursor.unexpected("nan has no sign")),
-            _ => self.primary(cursor),
-        }
+        self.primary(cursor)
     }
 
     fn table(&mut self, cursor: &mut Cursor, at: Position) -> Result<Parts, Error> {

@@ -1,8 +1,8 @@
 //! The words and signs of a text, line by line.
 
-use super::{Error, Position};
+use super::{as_name, Error, Position};
 use crate::decimal;
-use crate::script::TEXT_BYTES;
+use crate::script::{FINITE, TEXT_BYTES};
 
 /// A word, sign or value.
 #[derive(Clone, Debug, PartialEq, Eq)]
@@ -13,7 +13,7 @@ pub(super) enum Token {
     Name(String),
     /// A text in double quotes.
     Text(String),
-    /// A number, by its pattern.
+    /// A finite number, by its pattern.
     Number(u64),
     Sign(&'static str),
 }
@@ -168,16 +168,8 @@ impl<'t> Rest<'t> {
         let at = self.at;
         let word = self.take_while(|c| c.is_ascii_alphanumeric() || c == '_');
         match word {
-            "inf" => Ok(Token::Number(f64::INFINITY.to_bits())),
-            "nan" if self.text.starts_with('(') => {
-                let inside = self.take_while(|c| c != ')');
-                let text = format!("{word}{inside}{}", self.take(1));
-                let pattern = decimal::read_pattern(&text).map_err(|_| {
-                    Error::new(at, "this is no NaN; one has 16 digits, as in nan(7ff8000000000001)")
-                })?;
-                Ok(Token::Number(pattern))
-            }
-            "nan" => Ok(Token::Number(decimal::NAN)),
+            "inf" => Err(not_finite(at, word, "1 / 0")),
+            "nan" => Err(not_finite(at, word, "0 / 0")),
             _ => Ok(Token::Word(word.to_string())),
         }
     }
@@ -190,8 +182,8 @@ impl<'t> Rest<'t> {
             before = c;
             signed || c.is_ascii_alphanumeric() || matches!(c, '.' | '_')
         });
-        let pattern = decimal::read_pattern(text).map_err(|e| Error::new(at, e.to_string()))?;
-        Ok(Token::Number(pattern))
+        let number = decimal::read(text).map_err(|e| Error::new(at, e.to_string()))?;
+        Ok(Token::Number(number.to_bits()))
     }
 
     /// What stands in quotes; a backslash stands before a quote or a backslash inside.
@@ -251,6 +243,11 @@ impl<'t> Rest<'t> {
         };
         Err(Error::new(at, format!("{} has no meaning here{hint}", spelled(first))))
     }
+}
+
+/// A word for what is no number of a script; arithmetic gives it.
+fn not_finite(at: Position, word: &str, quotient: &str) -> Error {
+    Error::new(at, format!("{FINITE}; {quotient} gives {word}; {}", as_name(word)))
 }
 
 /// A character for people: in backquotes, a control character by its number.

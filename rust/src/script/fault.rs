@@ -4,7 +4,7 @@ use super::kind;
 use super::node::Node;
 use std::fmt;
 
-/// Why a tree file is refused with 1 to 5: the number, what is wrong, and where.
+/// Why a tree file is refused: the number, what is wrong, and where.
 ///
 /// ```
 /// let fault = sif::script::Script::read(&[0, 1, 1, 6]).unwrap_err();
@@ -13,7 +13,7 @@ use std::fmt;
 /// ```
 #[derive(Clone, Debug, PartialEq, Eq)]
 pub struct Fault {
-    /// The number of document 01, 1 to 5.
+    /// The number: by [`super::Script::read`] 1 to 5 or 39, by [`crate::check::check`] also 6 or 7.
     pub number: u8,
     /// What is wrong, for people.
     pub words: String,

@@ -1,12 +1,14 @@
 //! The bytes of a tree file: the checks before the structure, and writing.
 //!
 //! Document 01: "1 (under 3 bytes); 2; 1 (contents); 4 (unknown kind); 3 (length); 1 (bodies); 3; 5;
-//! 4". Each check is made on the whole file before the next begins.
+//! 4". Each check is made on the whole file before the next begins; document 02's 39 is "checked
+//! with 5, in node order" (M-104).
 
 use super::fault::Fault;
 use super::kind::{self, Body};
 use super::node::Node;
-use super::{FORTMP, NODES, TEXTS, TEXT_BYTES};
+use super::{FINITE, FORTMP, NODES, TEXTS, TEXT_BYTES};
+use crate::decimal;
 
 /// Where the parts of a file lie.
 struct Contents<'f> {
@@ -175,13 +177,14 @@ fn wrong_text(number: usize, text: &[u8], before: Option<&[u8]>) -> Option<(usiz
     }
 }
 
-/// 5: "a text number not below the text count, or an unknown operator".
+/// 5: "a text number not below the text count, or an unknown operator"; 39: "a Num body that is NaN
+/// or infinite". The first node at fault decides which of the two it is.
 fn check_numbers(contents: &Contents, texts: &[&[u8]], length: usize) -> Result<(), Fault> {
     let bodies: usize = contents.nodes.iter().map(|node| node.holds().size()).sum();
     let mut at = length.saturating_sub(bodies);
     for (number, node) in contents.nodes.iter().enumerate() {
-        if let Some((offset, words)) = wrong_number(node, texts.len()) {
-            let fault = Fault::new(5, words).at_byte(at + offset);
+        if let Some((refusal, offset, words)) = wrong_number(node, texts.len()) {
+            let fault = Fault::new(refusal, words).at_byte(at + offset);
             return Err(fault.at_node(&contents.nodes, number));
         }
         at += node.holds().size();
@@ -189,8 +192,9 @@ fn check_numbers(contents: &Contents, texts: &[&[u8]], length: usize) -> Result<
     Ok(())
 }
 
-/// What is wrong with a node's body, and at which of its bytes.
-fn wrong_number(node: &Node, texts: usize) -> Option<(usize, String)> {
+/// What is wrong with a node's body: 5 or 39, at which of its bytes, and in words. No body can be
+/// both; 5 would come first.
+fn wrong_number(node: &Node, texts: usize) -> Option<(u8, usize, String)> {
     match node.holds() {
         Body::Texts(_) => {
             let wrong = |byte: &u8| usize::from(*byte) >= texts;
@@ -200,11 +204,17 @@ fn wrong_number(node: &Node, texts: usize) -> Option<(usize, String)> {
                 1 => "the file has text 0 alone".to_string(),
                 _ => format!("the file has texts 0 to {}", texts - 1),
             };
-            Some((offset, format!("text number {byte}; {of}")))
+            Some((5, offset, format!("text number {byte}; {of}")))
         }
         Body::Operator(last) if !(1..=last).contains(&node.first()) => {
             let name = kind::name(node.kind);
-            Some((0, format!("operator {} of a {name}; operators are 1 to {last}", node.first())))
+            let words = format!("operator {} of a {name}; operators are 1 to {last}", node.first());
+            Some((5, 0, words))
+        }
+        Body::Binary64 => {
+            let number = f64::from_bits(node.binary64());
+            let wrong = || (39, 0, format!("the number is {}; {FINITE}", decimal::write(number)));
+            (!number.is_finite()).then(wrong)
         }
         _ => None,
     }

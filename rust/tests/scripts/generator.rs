@@ -1,35 +1,48 @@
 //! Tree files from a seed, written as bytes: every kind, every operator, odd texts and numbers. The
-//! structure is always allowed; whether the lowering accepts a file is the engine's to say.
+//! structure is always allowed, and the numbers are finite; whether the lowering accepts a file is
+//! the engine's to say.
 
 use super::Random;
 use sif::script::kind::*;
 
-/// Patterns that a number may have trouble with.
-pub const PATTERNS: [u64; 24] = [
+/// Finite numbers that one may have trouble with.
+pub const PATTERNS: [u64; 21] = [
     0,
     0x8000_0000_0000_0000, // -0
     0x3ff0_0000_0000_0000, // 1
     0xbff0_0000_0000_0000, // -1
     0x3fb9_9999_9999_999a, // 0.1
-    0x7ff0_0000_0000_0000, // inf
-    0xfff0_0000_0000_0000, // -inf
-    0x7ff8_0000_0000_0000, // the NaN of arithmetic
-    0xfff8_0000_0000_0000,
-    0x7ff0_0000_0000_0001, // a signalling NaN
-    0xffff_ffff_ffff_ffff,
-    0x7ff8_dead_beef_0001,
-    1, // the smallest number
+    1,                     // the smallest number
     0x8000_0000_0000_0001,
     0x000f_ffff_ffff_ffff, // the largest subnormal one
     0x0010_0000_0000_0000, // the smallest normal one
     0x7fef_ffff_ffff_ffff, // the largest
     0xffef_ffff_ffff_ffff,
+    0x7fe0_0000_0000_0000, // 2^1023
+    0x7eff_ffff_ffff_ffff, // the largest below 2^1009
+    0xfeff_ffff_ffff_ffff,
+    0x3ff8_0000_0000_0000, // 1.5
     0x4341_c379_37e0_8000, // 1e16
     0x4341_c379_37e0_7fff, // just below it
     0x3ee4_f8b5_88e3_68f1, // 1e-5
     0x3ee4_f8b5_88e3_68f0, // just below it
     0x4340_0000_0000_0000, // 2^53
     0x3fd5_5555_5555_5555, // a third
+];
+
+/// Infinities and NaNs.
+pub const NOT_FINITE: [u64; 11] = [
+    0x7ff0_0000_0000_0000, // inf
+    0xfff0_0000_0000_0000, // -inf
+    0x7ff8_0000_0000_0000, // the NaN of arithmetic
+    0xfff8_0000_0000_0000,
+    0x7ff0_0000_0000_0001, // signalling NaNs
+    0xfff0_0000_0000_0001,
+    0x7ff4_0000_0000_0000,
+    0x7ff0_0000_8000_0000,
+    0x7fff_ffff_ffff_ffff,
+    0xffff_ffff_ffff_ffff,
+    0x7ff8_dead_beef_0001,
 ];
 
 /// Texts that the language could stumble over.
@@ -100,7 +113,7 @@ pub fn encode(texts: &[Vec<u8>], nodes: &[Node]) -> Vec<u8> {
     file
 }
 
-/// The texts and nodes of a file that the checks 1 to 5 accept.
+/// The texts and nodes of a file that the checks 1 to 5 and 39 accept.
 pub fn decode(file: &[u8]) -> (Vec<Vec<u8>>, Vec<Node>) {
     let mut rest = file;
     let mut take = |length: usize| {
@@ -150,6 +163,15 @@ fn texts(random: &mut Random) -> Vec<Vec<u8>> {
     texts.sort();
     texts.insert(0, b"fortmp".to_vec());
     texts
+}
+
+/// A pattern, or where that is not finite one with a smaller exponent.
+fn finite(pattern: u64) -> u64 {
+    if f64::from_bits(pattern).is_finite() {
+        pattern
+    } else {
+        pattern ^ 1 << 52
+    }
 }
 
 impl Generator {
@@ -338,7 +360,7 @@ impl Generator {
     fn number(&mut self) {
         let pattern = match self.random.below(8) {
             0 | 1 => self.random.pick(&PATTERNS),
-            2 => self.random.next(),
+            2 => finite(self.random.next()),
             3 => (self.random.below(2000) as f64 / 8.0 - 100.0).to_bits(),
             _ => (self.random.below(30) as f64).to_bits(),
         };

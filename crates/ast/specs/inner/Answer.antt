@@ -1,13 +1,13 @@
--- The number that a file is answered with: document 01, "Numbers given for the input", or 0 where it holds a tree. Definitions only.
+-- The number that a file is answered with: document 01, "Numbers given for the input", and document 02, M-104; or 0 where it holds a tree. Definitions only.
 use Prim.Native.Nat.{ℕ, _+_}
 use mathlib.Core.Bool.{Bool, true, false, _&&_}
 use mathlib.Core.List.{List, [], _∷_, map}
 use lib.Dec.{leb, eqb}
 use lib.ListN.{length, drop}
-use Rattle.ast.specs.Node.{kindOf, body, bodySize}
+use Rattle.ast.specs.Node.{kindOf, body, bodySize, Node}
 use Rattle.ast.specs.Tree.{Stmts}
 use Rattle.ast.specs.Structure.{Parsed, Fails, Takes, parse}
-use Rattle.ast.specs.File.{Read, Refused, Tree, between, firsts, cut, ordered, nodesFrom, nodeOk}
+use Rattle.ast.specs.File.{Read, Refused, Tree, between, firsts, cut, ordered, nodesFrom, nodeOk, nodeFinite}
 use Rattle.ast.specs.inner.Pass.{Remaining, wrong, left}
 use Rattle.lent.specs.Lists.{sum, all}
 
@@ -32,10 +32,15 @@ abbrev pub orElse : Bool → ℕ → ℕ → ℕ
 orElse true n r = r
 orElse false n r = n
 
+-- the first fault of the nodes' bodies in node order, 5 before 39 at one node, or r
+abbrev pub faultOr : ℕ → List Node → ℕ → ℕ
+faultOr t [] r = r
+faultOr t (n ∷ ns) r = orElse (nodeOk t n) 5 (orElse (nodeFinite n) 39 (faultOr t ns r))
+
 abbrev pub bodiesAnswer : ℕ → List ℕ → List ℕ → List ℕ → ℕ
 bodiesAnswer t ls es bs =
     orElse (all (all (between 32 126)) (cut ls bs) && ordered (cut ls bs)) 3
-    (orElse (all (nodeOk t) (nodesFrom es (drop (sum ls) bs))) 5
+    (faultOr t (nodesFrom es (drop (sum ls) bs))
     (orElse (parsed (parse (nodesFrom es (drop (sum ls) bs)))) 4
     0))
 

@@ -10,8 +10,8 @@ use lib.Seq.{take-at, drop-at, take-add, length-take-le}
 use Rattle.lent.specs.Bytes.{beValue, beBytes, Each, none, more, AreBytes}
 use Rattle.lent.specs.laws.Each.{each-append, each-take, each-drop}
 use Rattle.lent.specs.laws.Numbers.{length-beBytes, beValue-lt, beBytes-beValue}
-use Rattle.ast.specs.Node.{kindOf, numberOf, Body, nothing, elifs, texts, operator, number64, body, bodySize, Node, node}
-use Rattle.ast.specs.File.{firsts, nodesFrom, between, fieldOk, nodeOk}
+use Rattle.ast.specs.Node.{kindOf, numberOf, Body, nothing, elifs, texts, operator, number64, body, bodySize, finiteNumber, Node, node}
+use Rattle.ast.specs.File.{firsts, nodesFrom, between, fieldOk, nodeOk, bodyFinite, nodeFinite}
 use Rattle.ast.specs.Tree.{Lit, Val, Text, Truth, Expr, Literal, Name, BinaryExpr, UnaryExpr, VarAssign, ArrayMut, FnCall, Rhs, Expression, Table, Array, ArrayAccess}
 use Rattle.ast.specs.Tree.{Exprs, noExprs, moreExprs, Items, noItems, moreItems, Source, OverName, OverCall}
 use Rattle.ast.specs.Tree.{Stmt, Block, IfStmt, ForStmt, Return, ReturnExpr, ExprStmt, VarDecl, VarInit, FnDecl, Stmts, noStmts, moreStmts, Rest, Else, Elif}
@@ -185,9 +185,9 @@ bodies-nodes n (k ∷ (c ∷ es)) bs l =
     let s = bodySize (body (kindOf k)) in
     ap (λ (r : List ℕ). take s bs ++ r) (bodies-nodes (n - 1) es (drop s bs) (omega arith)) ∙ sym (take-add s (bodiesOf es) bs)
 
--- ---- a body that passes its test holds what it may
+-- ---- a body that passes its tests holds what it may
 
-module _ (p q : ℕ → Bool) (t : ℕ) (ps : (x : ℕ) → x < t → T (p x)) (qs : (v : ℕ) → v < 2 ^ 64 → T (q v)) where
+module _ (p q : ℕ → Bool) (t : ℕ) (ps : (x : ℕ) → x < t → T (p x)) (qs : (v : ℕ) → v < 2 ^ 64 → T (finiteNumber v) → T (q v)) where
   texts-of : (n : ℕ) (b : List ℕ) → length b ≡ n → T (all (λ x. ltb x t) b) → Texts p n b
   texts-of zero [] l h = done
   texts-of zero (x ∷ b) l h = absurd (omega arith)
@@ -195,28 +195,30 @@ module _ (p q : ℕ → Bool) (t : ℕ) (ps : (x : ℕ) → x < t → T (p x)) (
   texts-of (suc n) (x ∷ b) l h =
       text (ps x (ltb→lt x t (T-left (ltb x t) (all (λ x. ltb x t) b) h))) (texts-of n b (omega arith) (T-right (ltb x t) (all (λ x. ltb x t) b) h))
 
-  fits-of : (B : Body) (b : List ℕ) → length b ≡ bodySize B → AreBytes b → T (fieldOk t B b) → Fits p q B b
-  fits-of nothing [] l a h = fits-nothing
-  fits-of nothing (x ∷ b) l a h = absurd (omega arith)
-  fits-of elifs [] l a h = absurd (omega arith)
-  fits-of elifs (x ∷ []) l a h = fits-elifs
-  fits-of elifs (x ∷ (y ∷ b)) l a h = absurd (omega arith)
-  fits-of (texts n) b l a h = fits-texts (texts-of n b l h)
-  fits-of (operator n) [] l a h = absurd (omega arith)
-  fits-of (operator n) (x ∷ []) l a h =
+  fits-of : (B : Body) (b : List ℕ) → length b ≡ bodySize B → AreBytes b → T (fieldOk t B b) → T (bodyFinite B b) → Fits p q B b
+  fits-of nothing [] l a h g = fits-nothing
+  fits-of nothing (x ∷ b) l a h g = absurd (omega arith)
+  fits-of elifs [] l a h g = absurd (omega arith)
+  fits-of elifs (x ∷ []) l a h g = fits-elifs
+  fits-of elifs (x ∷ (y ∷ b)) l a h g = absurd (omega arith)
+  fits-of (texts n) b l a h g = fits-texts (texts-of n b l h)
+  fits-of (operator n) [] l a h g = absurd (omega arith)
+  fits-of (operator n) (x ∷ []) l a h g =
       let i = between-le 1 n x (T-left (between 1 n x) true h) in
       fits-operator (i .0) (i .1)
-  fits-of (operator n) (x ∷ (y ∷ b)) l a h = absurd (omega arith)
-  fits-of number64 b l a h =
-      fits-binary64 (rw l at (beBytes-beValue a)) (qs (beValue b) (rw l at (beValue-lt a)))
+  fits-of (operator n) (x ∷ (y ∷ b)) l a h g = absurd (omega arith)
+  fits-of number64 b l a h g =
+      fits-binary64 (rw l at (beBytes-beValue a)) (qs (beValue b) (rw l at (beValue-lt a)) g)
 
   -- the nodes of entries and bodies
-  pub good-nodes : (es bs : List ℕ) → AreBytes bs → bodiesOf es ≤ length bs → T (all (nodeOk t) (nodesFrom es bs)) → Each (Good p q) (nodesFrom es bs)
-  good-nodes [] bs a l h = none
-  good-nodes (k ∷ []) bs a l h = none
-  good-nodes (k ∷ (c ∷ es)) bs a l h =
+  pub good-nodes : (es bs : List ℕ) → AreBytes bs → bodiesOf es ≤ length bs → T (all (nodeOk t) (nodesFrom es bs)) → T (all nodeFinite (nodesFrom es bs)) → Each (Good p q) (nodesFrom es bs)
+  good-nodes [] bs a l h g = none
+  good-nodes (k ∷ []) bs a l h g = none
+  good-nodes (k ∷ (c ∷ es)) bs a l h g =
       let B = body (kindOf k) in
       let s = bodySize B in
       let ns = nodesFrom es (drop s bs) in
-      more (fits-of B (take s bs) (length-take-le s bs (omega arith)) (each-take s a) (T-left (fieldOk t B (take s bs)) (all (nodeOk t) ns) h))
-      (good-nodes es (drop s bs) (each-drop s a) (simp length-drop (omega arith)) (T-right (fieldOk t B (take s bs)) (all (nodeOk t) ns) h))
+      let o = fieldOk t B (take s bs) in
+      let u = bodyFinite B (take s bs) in
+      more (fits-of B (take s bs) (length-take-le s bs (omega arith)) (each-take s a) (T-left o (all (nodeOk t) ns) h) (T-left u (all nodeFinite ns) g))
+      (good-nodes es (drop s bs) (each-drop s a) (simp length-drop (omega arith)) (T-right o (all (nodeOk t) ns) h) (T-right u (all nodeFinite ns) g))

@@ -1,30 +1,33 @@
 -- Files and trees: texts and a tree within the limits have a file that is read as that tree, and a file of bytes that is read is the one of its texts and
 -- its tree. So reading and writing are inverse.
-use mathlib.Core.Path.{_≡_, refl, sym, ap, ap₂, _∙_}
+use mathlib.Core.Path.{_≡_, refl, sym, ap, ap₂, _∙_, subst}
 use mathlib.Core.Bool.{Bool, true, false}
 use mathlib.Core.List.{List, [], _∷_, _++_, map, append-assoc, append-nil}
-use Prim.Native.Nat.{ℕ, zero, suc, _+_, _*_, _≤_, _<_}
+use Prim.Native.Nat.{ℕ, zero, suc, _+_, _*_, _%_, _^_, _≤_, _<_}
 use native.Mathlib.Omega.{arith}
 use lib.Dec.{T, leb, ltb, leb→le, le→leb, ltb→lt, lt→ltb, eqb→eq, eqb-refl}
+use lib.Ieee.{ofBits}
+use lib.Pow.{mod-mod-pow}
 use lib.ListN.{length, take, drop, take-append-drop, length-append, length-map, length-drop}
 use lib.Seq.{take-at, drop-at, take-add, drop-drop, drop-cons, length-take-le}
-use Rattle.lent.specs.Bytes.{beBytes, part, concat, Each, none, more, AreBytes}
+use Rattle.lent.specs.Bytes.{beValue, beBytes, part, concat, Each, none, more, AreBytes}
 use Rattle.lent.specs.laws.Each.{each-append, each-part}
-use Rattle.lent.specs.laws.Numbers.{beBytes-bytes, beValue-beBytes, beBytes-beValue}
+use Rattle.lent.specs.laws.Numbers.{beBytes-bytes, beValue-beBytes, beValue-beBytes-mod, beBytes-beValue}
 use Rattle.lent.specs.laws.Parts.{length-part}
-use Rattle.ast.specs.Node.{numberOf, Body, body, Node, node}
+use Rattle.numeric.specs.laws.PatternLaws.{finite-pattern}
+use Rattle.ast.specs.Node.{numberOf, Body, body, finiteNumber, Node, node}
 use Rattle.ast.specs.Tree.{Plus, Val, Literal, Name, BinaryExpr, Expression, VarInit, Stmts, noStmts, moreStmts}
 use Rattle.ast.specs.Structure.{parse}
-use Rattle.ast.specs.File.{nodeCount, textCount, contentsSize, lengths, entries, nodeBodies, bodiesSize, cut, textList, nodes, between, fortmp, ordered, fieldOk, nodeOk, Tree, readTree}
+use Rattle.ast.specs.File.{nodeCount, textCount, contentsSize, lengths, entries, nodeBodies, bodiesSize, cut, textList, nodes, between, fortmp, ordered, fieldOk, nodeOk, bodyFinite, nodeFinite, Tree, readTree}
 use Rattle.ast.specs.Flat.{flat, entryBytes, bodyBytes}
-use Rattle.ast.specs.Limits.{depth, textsBelow, numbersFit}
+use Rattle.ast.specs.Limits.{depth, textsBelow, numbersFit, numbersFinite}
 use Rattle.ast.specs.TreeFile.{fileOf, TextsFit, childrenByte, TreeFits}
 use Rattle.ast.specs.laws.Kinds.{kind-number}
 use Rattle.ast.specs.laws.Tests.{T-left, T-right, T-both, between-le, le-between, all-each, all-map}
 use Rattle.ast.specs.laws.Sound.{Texts, done, text}
 use Rattle.ast.specs.laws.Complete.{flat-parse}
 use Rattle.ast.specs.laws.Entries.{Made, made-nothing, made-elifs, made-texts, made-operator, made-number, MadeNode, flat-made, nodes-bytes, length-bodyBytes, length-entryBytes, kinds-entryBytes}
-use Rattle.ast.specs.laws.Reading.{Passed, read-passed, passed-read, counted, read-ok, Known, read-known, read-texts, read-numbers}
+use Rattle.ast.specs.laws.Reading.{Passed, read-passed, passed-read, counted, read-ok, Known, read-known, read-texts, read-numbers, read-finite}
 use Rattle.lent.specs.Lists.{sum, all}
 
 -- ---- texts: cut from their bytes, and joined again
@@ -94,7 +97,26 @@ split f a l h =
     ∙ sym (take-append-drop (sum (lengths f)) (drop (contentsSize f) f))
     ∙ ap (λ (r : List ℕ). take (sum (lengths f)) (drop (contentsSize f) f) ++ r) (drop-drop (sum (lengths f)) (contentsSize f) f)))))
 
--- ---- a tree's nodes pass the tests of their fields; nodes and texts are bytes
+-- ---- a tree's nodes pass the tests of their bodies; nodes and texts are bytes
+
+-- 8 bytes hold a number but for what lies above them, which its being finite does not rest on
+finite-bytes : (v : ℕ) → finiteNumber (beValue (beBytes 8 v)) ≡ finiteNumber v
+finite-bytes v =
+    finite-pattern (beValue (beBytes 8 v))
+    ∙ ap (λ (w : ℕ). ltb (w % 2 ^ 63) 0x7ff0_0000_0000_0000) (beValue-beBytes-mod 8 v)
+    ∙ ap (λ (w : ℕ). ltb w 0x7ff0_0000_0000_0000) (mod-mod-pow v 1 63)
+    ∙ sym (finite-pattern v)
+
+finite-pass : {p : ℕ → Bool} {B : Body} {c : ℕ} {b : List ℕ} → Made p finiteNumber B c b → T (bodyFinite B b)
+finite-pass made-nothing = tt
+finite-pass (made-elifs h) = tt
+finite-pass (made-texts h) = tt
+finite-pass (made-operator l h) = tt
+finite-pass (made-number v h) = subst T (sym (finite-bytes v)) h
+
+finite-nodes : {p : ℕ → Bool} (ns : List Node) → Each (MadeNode p finiteNumber) ns → T (all nodeFinite ns)
+finite-nodes [] none = tt
+finite-nodes (node k c b ∷ ns) (more h g) = T-both (bodyFinite (body k) b) (all nodeFinite ns) (finite-pass h) (finite-nodes ns g)
 
 module _ (n : ℕ) where
   texts-pass : {m : ℕ} {b : List ℕ} → Texts (λ x. ltb x n) m b → T (all (λ x. ltb x n) b)
@@ -197,6 +219,7 @@ module _ (texts : List (List ℕ)) (t : Stmts) (x : TextsFit texts) (y : TreeFit
         whole = rw s (eqb-refl (contentsSize bytes + bodiesSize bytes));
         texts = rw file-texts (T-both (all (all (between 32 126)) texts) (ordered texts) (x .printable) (x .inOrder));
         fields = rw file-nodes (fields-pass (length texts) (λ v. true) ns made);
+        numbers = rw file-nodes (finite-nodes ns (flat-made (λ i. true) finiteNumber t (y .finite)));
       }
 
   -- and it is read as this tree
@@ -216,7 +239,7 @@ module _ (texts : List (List ℕ)) (t : Stmts) (x : TextsFit texts) (y : TreeFit
 
 module _ (f : List ℕ) (t : Stmts) (a : AreBytes f) (e : readTree f ≡ Tree t) where
   known : Known (λ x. true) (λ v. true) f t
-  known = read-known (λ x. true) (λ v. true) f (λ x i j. tt) (λ v i. tt) a e
+  known = read-known (λ x. true) (λ v. true) f (λ x i j. tt) (λ v i j. tt) a e
 
   checks : Passed f
   checks = read-passed f e
@@ -255,6 +278,7 @@ module _ (f : List ℕ) (t : Stmts) (a : AreBytes f) (e : readTree f ≡ Tree t)
     structure = read-ok f e;
     names = rw count-read (read-texts a e);
     numbers = read-numbers a e;
+    finite = read-finite a e;
     children = bytes-entries (flat t) (rw (known .contents) at (each-part (3 + textCount f) (2 * nodeCount f) a));
   }
 
@@ -288,7 +312,7 @@ abbrev sampleTree : Stmts
 sampleTree = moreStmts (VarInit 1 (Expression (BinaryExpr Plus (Literal (Val 0x3ff0000000000000)) (Name 1)))) noStmts
 
 sample-read : readTree sample ≡ Tree sampleTree
-unfolding readTree
+unfolding readTree ofBits
 sample-read = refl
 
 sample-file : fileOf (fortmp ∷ (120 ∷ []) ∷ []) sampleTree ≡ sample
@@ -296,3 +320,11 @@ sample-file = refl
 
 sample-limits : (depth sampleTree ≡ 4) × (textsBelow 2 sampleTree ≡ true) × (textsBelow 1 sampleTree ≡ false) × (numbersFit sampleTree ≡ true)
 sample-limits = (refl, refl, refl, refl)
+
+-- with an infinity in place of 1 it is outside the limits
+abbrev infiniteTree : Stmts
+infiniteTree = moreStmts (VarInit 1 (Expression (BinaryExpr Plus (Literal (Val 0x7ff0000000000000)) (Name 1)))) noStmts
+
+sample-finite : (numbersFinite sampleTree ≡ true) × (numbersFinite infiniteTree ≡ false)
+unfolding ofBits
+sample-finite = (refl, refl)

@@ -1,5 +1,5 @@
 -- Every tree that is read from a file of bytes is within the limits that the lowering counts on (Within): texts below 64, at most 24 items in an
--- array, at most 255 parameters and arguments, since a child count is one byte. Document 01, "The tree file".
+-- array, at most 255 parameters and arguments, since a child count is one byte. Document 01, "The tree file". And its literals are finite (document 02, M-104).
 use Prim.Native.Nat.{ℕ, suc, _+_, _*_, _-_, _≤_, _<_}
 use native.Mathlib.Omega.{arith}
 use mathlib.Core.Path.{_≡_, subst}
@@ -18,7 +18,8 @@ use Rattle.ast.specs.Structure.{distinct, itemCount, exprOk, rhsOk, exprsOk, it
 use Rattle.ast.specs.Flat.{flatNames, flatExpr, flatRhs, flatExprs, exprCount, flatItems, flatSource, blockNode, flatStmt, flatStmts, flatRest, flat, entryBytes}
 use Rattle.ast.specs.Limits.{everyLit, everyLits, everyName, everyExpr, everyRhs, everyExprs, everyItems, everySource, everyStmt, every, everyRest}
 use Rattle.ast.specs.File.{nodeCount, textCount, readTree, Tree}
-use Rattle.ast.specs.laws.Reading.{read-flat, read-names, read-limits}
+use Rattle.ast.specs.laws.Reading.{read-flat, read-names, read-limits, read-finite}
+use Rattle.compiler.specs.Literals.{literal, finiteSingle}
 use Rattle.compiler.specs.Within.{LitIn, ExprIn, RhsIn, ExprsIn, ItemsIn, SourceIn, StmtIn, StmtsIn, RestIn}
 
 -- ---- lists of which something holds
@@ -171,9 +172,14 @@ mutual
       let z = each-split (flatStmts b) (flatRest k) (each-rest (y .1)) in
       (in-expr c (j .0) (u .0) (y .0), in-stmts b l f (j .1) (v .0) (z .0), in-rest k l f (i .1) (v .1) (z .1))
 
--- ---- the law
+-- ---- the laws
 
 pub read-within : {f : List ℕ} {t : Stmts} → AreBytes f → readTree f ≡ Tree t → StmtsIn t × (length (flat t) ≤ 1024)
 read-within {f} {t} a e =
     let n = small-nodes (flat t) (subst AreBytes (read-flat a e .0) (each-part (3 + textCount f) (2 * nodeCount f) a)) in
     (in-stmts t 8 false (read-names a e) (rw (read-limits a e .2) tt) (each-rest n), read-limits a e .0)
+
+-- What a literal of a tree that is read stands for, to the lowering and to the walk, is no NaN and no infinity: document 02, M-104, "The bound and the walk
+-- are then read over trees without such literals."
+pub read-literals : {f : List ℕ} {t : Stmts} → AreBytes f → readTree f ≡ Tree t → T (every (λ x. true) (λ v. finiteSingle (literal (Val v))) t)
+read-literals a e = read-finite a e

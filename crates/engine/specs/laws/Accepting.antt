@@ -3,16 +3,16 @@ use mathlib.Core.Path.{_≡_, refl, ap}
 use mathlib.Core.Bool.{Bool, true, false, cond}
 use mathlib.Core.List.{List}
 use mathlib.Core.Option.{some}
-use Prim.Native.Nat.{ℕ, zero, suc, _+_, _≤_}
+use Prim.Native.Nat.{ℕ, zero, suc, _≤_}
 use native.Mathlib.Omega.{arith}
-use lib.Dec.{T, leb, ltb, eqb}
+use lib.Dec.{ltb}
 use lib.ListN.{length}
 use borrow.Author.Tests.{ltb-false}
 use Rattle.lent.specs.Bytes.{Each, AreBytes}
 use Rattle.opc.specs.Op.{Instr, op}
 use Rattle.ast.specs.Tree.{Stmts}
-use Rattle.ast.specs.Structure.{Parsed, Fails, Takes, parse}
-use Rattle.ast.specs.File.{contentsSize, bodiesSize, nodes, countsOk, kindsOk, lengthsOk, textsOk, fieldsOk, Read, Refused, Tree, require, structured, readTree}
+use Rattle.ast.specs.File.{Read, Tree, readTree}
+use Rattle.ast.specs.laws.Reading.{Has, refused, tree, read-has}
 use Rattle.tables.specs.Tables.{Program}
 use Rattle.tables.specs.ProgramBytes.{programSize, encodeProgram, decodeProgram}
 use Rattle.tables.specs.laws.ProgramLaws.{program-length}
@@ -26,39 +26,6 @@ use Rattle.engine.specs.laws.CallLaws.{length-over, lowers, lowers-back,
 use Rattle.compiler.specs.laws.ReadWithin.{read-within}
 use Rattle.opc.specs.Limits.{OpFits}
 use Rattle.tables.specs.Limits.{programOk}
-
--- ---- no refusal has the number 0
-
-abbrev Numbered : Read → Type 0
-Numbered (Refused n) = 1 ≤ n
-Numbered (Tree t) = T true
-
-required : (b : Bool) (n : ℕ) (r : Read) → 1 ≤ n → Numbered r → Numbered (require b n r)
-required true n r h k = k
-required false n r h k = h
-
-numbered-structured : (o : Parsed Stmts) → Numbered (structured o)
-numbered-structured Fails = omega arith
-numbered-structured (Takes t ns) = tt
-
-read-numbered : (f : List ℕ) → Numbered (readTree f)
-unfolding readTree
-read-numbered f =
-    let r₈ = require (fieldsOk f) 5 (structured (parse (nodes f))) in
-    let r₇ = require (textsOk f) 3 r₈ in
-    let r₆ = require (eqb (contentsSize f + bodiesSize f) (length f)) 1 r₇ in
-    let r₅ = require (lengthsOk f) 3 r₆ in
-    let r₄ = require (kindsOk f) 4 r₅ in
-    let r₃ = require (leb (contentsSize f) (length f)) 1 r₄ in
-    let r₂ = require (countsOk f) 2 r₃ in
-    required (leb 3 (length f)) 1 r₂ (omega arith)
-    (required (countsOk f) 2 r₃ (omega arith)
-    (required (leb (contentsSize f) (length f)) 1 r₄ (omega arith)
-    (required (kindsOk f) 4 r₅ (omega arith)
-    (required (lengthsOk f) 3 r₆ (omega arith)
-    (required (eqb (contentsSize f + bodiesSize f) (length f)) 1 r₇ (omega arith)
-    (required (textsOk f) 3 r₈ (omega arith)
-    (required (fieldsOk f) 5 (structured (parse (nodes f))) (omega arith) (numbered-structured (parse (nodes f))))))))))
 
 -- ---- what an answer of 0 tells
 
@@ -98,13 +65,14 @@ module _ (file program : List ℕ) (a : AreBytes file) where
       }
   by-lowered t er h (suc k) q el e = absurd (omega arith)
 
-  by-read : (r : Read) → readTree file ≡ r → programSize ≤ length program → Numbered r → lowerRead r program .result ≡ 0 → Accepts file program
-  by-read (Refused n) er h k e = absurd (omega arith)
-  by-read (Tree t) er h k e = by-lowered t er h (refusal (lowerTree t) 0 0) (programOf (lowerTree t)) refl e
+  -- no refusal has the number 0
+  by-read : {P : Stmts → Type 0} {r : Read} → readTree file ≡ r → programSize ≤ length program → Has P r → lowerRead r program .result ≡ 0 → Accepts file program
+  by-read er h (refused k) e = absurd (omega arith)
+  by-read er h (tree {t = t} p) e = by-lowered t er h (refusal (lowerTree t) 0 0) (programOf (lowerTree t)) refl e
 
   by-room : (b : Bool) → ltb (length program) programSize ≡ b → cond b (answered 9 program) (lowerRead (readTree file) program) .result ≡ 0 → Accepts file program
   by-room true q e = absurd (omega arith)
-  by-room false q e = by-read (readTree file) refl (ltb-false (length program) programSize q) (read-numbered file) e
+  by-room false q e = by-read refl (ltb-false (length program) programSize q) (read-has file) e
 
   pub accepts : lowerCall file program .result ≡ 0 → Accepts file program
   unfolding lowerCall
