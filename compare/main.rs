@@ -6,6 +6,9 @@ mod numbers;
 #[path = "../oracle/src/reader.rs"]
 mod reader;
 #[allow(dead_code)]
+#[path = "../oracle/src/refuse.rs"]
+mod refuse;
+#[allow(dead_code)]
 #[path = "../oracle/src/rng.rs"]
 mod rng;
 #[allow(dead_code)]

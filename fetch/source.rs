@@ -155,10 +155,7 @@ impl Sources {
 
     /// The function that a path names in a module.
     fn resolve(&self, module: &str, path: &str) -> Option<String> {
-        let name = module.split("::").next().unwrap_or(module);
-        let near = format!("{module}::{path}");
-        let far = path.strip_prefix("crate::").map_or(path.to_string(), |rest| format!("{name}::{rest}"));
-        [near, far].into_iter().find(|name| self.has(name))
+        names(module, path).into_iter().find(|name| self.has(name))
     }
 
     /// Whether a path is a value of an enum, or one of the language's own functions.
@@ -234,11 +231,18 @@ impl Sources {
         out
     }
 
-    /// Whether a word is a power of two: a number, or a constant of the module.
+    /// Whether a word is a power of two: a number, or a constant that has one.
     fn power(&self, module: &str, word: &str) -> bool {
-        let word = self.constants.get(&format!("{module}::{word}")).map_or(word, String::as_str);
+        let word = names(module, word).iter().find_map(|name| self.constants.get(name)).map_or(word, String::as_str);
         whole(word).is_some_and(u64::is_power_of_two)
     }
+}
+
+/// What a path in a module may name: an item of the module, or one by its whole path.
+fn names(module: &str, path: &str) -> [String; 2] {
+    let own = module.split("::").next().unwrap_or(module);
+    let far = path.strip_prefix("crate::").map_or(path.to_string(), |rest| format!("{own}::{rest}"));
+    [format!("{module}::{path}"), far]
 }
 
 /// The module of a file: `opc` of crates/opc/src/lib.rt, `groups::plan` of crates/groups/src/plan.rt.

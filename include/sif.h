@@ -1,21 +1,39 @@
 /* The page-script engine: four calls on lent bytes. C99 and C++.
  *
  * A tree file is lowered into a program buffer; a state buffer is started for that program; runs take steps of it; the names that
- * a run leaves behind are the page. docs/FORMATS.md has the formats. All numbers in buffers are big-endian.
+ * a run leaves behind are the page. docs/FORMATS.md has the formats. All numbers in buffers are big-endian. sif_read.h reads
+ * texts, values and reports, and examples/page.c is a whole caller.
  *
  *   uint64_t no = sif_lower(file, file_len, program, SIF_PROGRAM_SIZE);
  *   if (no == 0) no = sif_start(program, SIF_PROGRAM_SIZE, state, SIF_STATE_SIZE);
- *   if (no == 0) no = sif_run(program, SIF_PROGRAM_SIZE, state, SIF_STATE_SIZE, 1000, report, SIF_REPORT_SIZE);
+ *   if (no == 0) no = sif_run(program, SIF_PROGRAM_SIZE, state, SIF_STATE_SIZE, 5000, report, SIF_REPORT_SIZE);
  *   if (no == 0) no = sif_read_name(state, SIF_STATE_SIZE, text, value, SIF_VALUE_SIZE);
+ *
+ * To link, with the library that `rt staticlib engine` makes. It calls no other library, C's neither:
+ *
+ *   cc -std=c99 -O2 -I include -o page examples/page.c target/staticlib/libengine.a
  *
  * What holds of every call:
  * - It answers 0, or the number of a refusal (below). After 8, 9 and 10 nothing is written.
- * - Lengths are the lengths of the lent buffers. A buffer longer than its size is left as it is beyond that size; a shorter one is
- *   refused with 9. Pointers are not null.
+ * - Lengths are the lengths of the lent buffers, 64 bits wide on every target. A buffer longer than its size is left as it is
+ *   beyond that size; a shorter one is refused with 9.
+ * - Pointers are not null, but for a buffer of length 0: a file is then refused with 1, any other buffer with 9.
  * - Buffers may lie at any address: no alignment is asked for.
  * - Two buffers lent to one call must not overlap.
  * - Nothing else is written or kept: no heap, no writable global data, no file. Every call ends: lower by the size of its file, run by the
  *   steps given.
+ * - A file may have any length. One longer than SIF_FILE_LONGEST is always refused, so SIF_FILE_LONGEST + 1 bytes of room receive
+ *   any file: one that fills them is refused, whether or not more bytes followed.
+ * - Time: before its first step sif_run checks the whole program and the whole state, and plans the program. On the pages measured
+ *   that takes as long as some 700 steps on x86-64 and over 2,000 on a Cortex-M7. So give a call 5,000 steps or more: in portions
+ *   of 500 the heaviest page took 2.5 times as long as in one call on x86-64, 5.4 times on a Cortex-M7. sif_read_name checks the
+ *   whole state, too: read a page from the state itself (SIF_STATE_NAMES).
+ * - Saving: programs and states are plain bytes, without pointers. Copies that were made between calls may be lent in their place
+ *   at any time, at any address, also after the power was off and on another processor. The first 34,948 bytes of a program and
+ *   the first 47,360 of a state are enough: the bytes behind may be any, but the lengths lent are the whole sizes. A call
+ *   that was cut off leaves the buffers that it writes half written: go on from copies. 8 and 10 tell bytes that are no program
+ *   and no state at all; they do not tell a state of another program, nor bytes that changed into others that are allowed. So
+ *   keep program and state together, with SIF_VERSION and a checksum.
  * - After an update: programs lowered before document 02's M-100, M-103 or M-104 are accepted and run as they did, but for M-103's
  *   rule: a step whose index is a fraction, negative, a NaN, infinite, or 2^64 or more stops with 38, unless a 27 of that step
  *   comes first, in states started before as well. A state goes on with the program that it was started for; a script that is
@@ -23,18 +41,21 @@
  *   is refused with 39, and is sent again by the desktop.
  * - Threads: calls on different buffers may run at the same time. A program that nobody writes may be lent to several calls at
  *   once, and a state that nobody writes to several sif_read_name; a state that is started or run is lent to that one call alone.
- * - Stack, measured on x86-64: sif_lower 31 KB over the files at the limits of bench/run, and up to 196 KB on a file of nothing
- *   but Elifs, each of which takes 0.6 KB (Ifs in one another, 333 Elifs in all); sif_run under 5 KB, sif_start and sif_read_name
- *   under 3 KB. */
+ * - Stack on x86-64, for every file, program and state, as compare/stack reads it from the object code: sif_lower under 22 KB,
+ *   sif_run under 5 KB, sif_start under 3 KB, sif_read_name under 1 KB. */
 #ifndef SIF_H
 #define SIF_H
 
-#include <stddef.h>
 #include <stdint.h>
 
 #ifdef __cplusplus
 extern "C" {
 #endif
+
+/* The version of this header and of the library beside it; the library does not tell its own, so take both from one place. It
+ * grows by 1 with each change that a caller can see: what a call answers to the same bytes, further refusals, stops, calls and
+ * sizes. docs/FORMATS.md, "After an update", says for each change what becomes of files, programs and states from before. */
+#define SIF_VERSION 1
 
 /* Sizes of the lent buffers, in bytes. */
 #define SIF_PROGRAM_SIZE 40960
@@ -100,6 +121,12 @@ enum {
     SIF_REPORT_STEPS = 40       /* 8 bytes: steps taken in this run */
 };
 
+/* A state, 65,536 bytes. After a sif_start or sif_run that answered 0, and until it is written again, it holds each name's value
+ * where this says: the very bytes that sif_read_name gives. */
+enum {
+    SIF_STATE_NAMES = 24576     /* 64 of 256 bytes: the value of each text's name, in the order of the texts */
+};
+
 /* A value, 256 bytes; bytes that a value does not use are zero. */
 enum {
     SIF_VALUE_KIND = 0,         /* 1 byte, below */
@@ -123,17 +150,17 @@ enum {
 
 /* Lowers a tree file into a program. Answers 0, or 9; 1 to 5 or 39; 6 or 7. After 1 to 7 and 39 the program buffer's first 40,960
  * bytes are zero. */
-uint64_t sif_lower(const uint8_t *file, size_t file_len, uint8_t *program, size_t program_len);
+uint64_t sif_lower(const uint8_t *file, uint64_t file_len, uint8_t *program, uint64_t program_len);
 
 /* Makes a fresh state for a program: no name set, count 0, at the code start. Answers 0, or 9, 8. */
-uint64_t sif_start(const uint8_t *program, size_t program_len, uint8_t *state, size_t state_len);
+uint64_t sif_start(const uint8_t *program, uint64_t program_len, uint8_t *state, uint64_t state_len);
 
 /* Takes up to so many steps and writes a report. Answers 0, or 9, 8, 10. */
-uint64_t sif_run(const uint8_t *program, size_t program_len, uint8_t *state, size_t state_len, uint64_t steps, uint8_t *report,
-                 size_t report_len);
+uint64_t sif_run(const uint8_t *program, uint64_t program_len, uint8_t *state, uint64_t state_len, uint64_t steps, uint8_t *report,
+                 uint64_t report_len);
 
 /* Reads the value of the name that is such a text; an unset name is 256 zeros. Answers 0, or 9, 8 (text over 63), 10. */
-uint64_t sif_read_name(const uint8_t *state, size_t state_len, uint64_t text, uint8_t *out, size_t out_len);
+uint64_t sif_read_name(const uint8_t *state, uint64_t state_len, uint64_t text, uint8_t *out, uint64_t out_len);
 
 #ifdef __cplusplus
 }

@@ -1,20 +1,30 @@
 //! Files of antt, read by their layout: which names each item declares, and which names it needs. An
 //! item starts at its container's indent; whatever is indented further belongs to it.
-use crate::files::files;
+use crate::files::sources;
 use std::collections::{BTreeMap, BTreeSet};
-use std::fs;
 use std::path::Path;
 
 /// An item of a file, by its place in `Library::files`.
 pub type Need = (usize, usize);
 
 /// A definition counts with its text, a law with its statement alone.
-struct Item {
-    law: bool,
+pub struct Item {
+    pub law: bool,
     /// a data type, whose constructors are names too
     data: bool,
-    names: Vec<String>,
-    tokens: Vec<String>,
+    pub names: Vec<String>,
+    pub tokens: Vec<String>,
+    /// its signature, with the parameters of the modules around it; of a data type or a record all of it
+    pub statement: String,
+    /// its clauses
+    pub body: String,
+}
+
+/// What a name leads to: an item of the project, or a module outside it, or of structs and enums, and the name there.
+#[derive(Clone, PartialEq)]
+pub enum Led {
+    Here(Need),
+    Outside(String, String),
 }
 
 struct File {
@@ -26,6 +36,8 @@ struct File {
     aliases: BTreeMap<String, String>,
     items: Vec<Item>,
     places: BTreeMap<String, usize>,
+    /// how operators bind: `infixl 20 _>>=_`
+    fixities: Vec<String>,
 }
 
 pub struct Library {
@@ -37,11 +49,7 @@ pub struct Library {
 /// dot, is none.
 pub fn tokens(text: &str) -> Vec<String> {
     let cut = |c: char| c.is_whitespace() || "(){},;⌜⌝λ\"".contains(c);
-    text.split(cut)
-        .map(|t| t.trim_end_matches('.'))
-        .filter(|t| !t.is_empty() && !t.starts_with('.'))
-        .map(str::to_string)
-        .collect()
+    text.split(cut).map(|t| t.trim_end_matches('.')).filter(|t| !t.is_empty() && !t.starts_with('.')).map(str::to_string).collect()
 }
 
 /// The imports of `use M.{a, b as c}` and `use M as m`, without the word `use`.
@@ -91,19 +99,35 @@ fn module_named(used: &str) -> Option<String> {
     Some(format!("{name}.{inside}"))
 }
 
-/// A part of a file that holds items: its indent, whether plain items in it are definitions, and what
-/// its parameters need.
+/// What an imported name leads to that is no item of the project.
+pub fn outside(imports: &BTreeMap<String, (String, String)>, aliases: &BTreeMap<String, String>, token: &str) -> Option<Led> {
+    let operator = || imports.iter().find(|(i, _)| i.contains('_') && written(i).iter().any(|p| p == token)).map(|(_, from)| from.clone());
+    let aliased = || token.split_once('.').and_then(|(alias, name)| Some((aliases.get(alias)?.clone(), name.to_string())));
+    let (module, name) = imports.get(token).cloned().or_else(operator).or_else(aliased)?;
+    Some(Led::Outside(module_named(&module).unwrap_or(module), name))
+}
+
+/// A part of a file that holds items: its indent, whether plain items in it are definitions, what its parameters need, and
+/// its header.
 struct Container {
     indent: usize,
     open: bool,
     tokens: Vec<String>,
+    text: String,
 }
 
 impl File {
     fn read(path: String, text: &str) -> File {
-        let mut file =
-            File { path, lines: 0, imports: BTreeMap::new(), aliases: BTreeMap::new(), items: Vec::new(), places: BTreeMap::new() };
-        let mut inside = vec![Container { indent: 0, open: false, tokens: Vec::new() }];
+        let mut file = File {
+            path,
+            lines: 0,
+            imports: BTreeMap::new(),
+            aliases: BTreeMap::new(),
+            items: Vec::new(),
+            places: BTreeMap::new(),
+            fixities: Vec::new(),
+        };
+        let mut inside = vec![Container { indent: 0, open: false, tokens: Vec::new(), text: String::new() }];
         let mut pending = String::new();
         let mut statement = true;
         // the parameters of a module go on in the next line
@@ -128,6 +152,7 @@ impl File {
             if header {
                 let last = inside.len() - 1;
                 inside[last].tokens.extend(tokens(line));
+                inside[last].text += &format!(" {line}");
                 header = !line.trim_end().ends_with("where");
                 continue;
             }
@@ -142,19 +167,30 @@ impl File {
             }
             let words: Vec<&str> = line.split_whitespace().collect();
             match words[0] {
-                "infixl" | "infixr" | "infix" | "unfolding" | "mod" => continue,
+                "infixl" | "infixr" | "infix" => {
+                    file.fixities.push(words.join(" "));
+                    continue;
+                }
+                "unfolding" => {
+                    if let Some(item) = file.items.last_mut() {
+                        item.body += &format!(" {line}");
+                    }
+                    continue;
+                }
+                "mod" => continue,
                 "pub" if words.get(1) == Some(&"mod") => continue,
                 "module" => {
                     let outer = here.tokens.clone();
-                    inside.push(Container { indent: depth + 2, open: false, tokens: [outer, tokens(line)].concat() });
+                    let text = format!("{} {line}", here.text);
+                    inside.push(Container { indent: depth + 2, open: false, tokens: [outer, tokens(line)].concat(), text });
                     header = !line.trim_end().ends_with("where");
                     continue;
                 }
                 _ => {}
             }
             if words.contains(&"mutual") {
-                let outer = here.tokens.clone();
-                inside.push(Container { indent: depth + 2, open: words[0] == "abbrev", tokens: outer });
+                let (outer, text) = (here.tokens.clone(), here.text.clone());
+                inside.push(Container { indent: depth + 2, open: words[0] == "abbrev", tokens: outer, text });
                 continue;
             }
             statement = file.start(&words, line, here).unwrap_or(false);
@@ -195,13 +231,23 @@ impl File {
             _ => return None,
         };
         let data = rest.first() == Some(&"data");
-        self.items.push(Item { law: !(open || typed), data, names: vec![name], tokens: [here.tokens.clone(), tokens(line)].concat() });
+        let word = if here.open { "abbrev" } else { "" };
+        self.items.push(Item {
+            law: !(open || typed),
+            data,
+            names: vec![name],
+            tokens: [here.tokens.clone(), tokens(line)].concat(),
+            statement: format!("{} {word} {line}", here.text),
+            body: String::new(),
+        });
         Some(true)
     }
 
     /// A line that belongs to the last item: all of a definition's, of a law those of its statement.
     fn body(&mut self, line: &str, statement: bool) {
         let Some(item) = self.items.last_mut() else { return };
+        let text = if statement { &mut item.statement } else { &mut item.body };
+        *text += &format!(" {line}");
         if !item.law || statement {
             item.tokens.extend(tokens(line));
         }
@@ -213,16 +259,39 @@ impl File {
 
 impl Library {
     pub fn read(root: &Path) -> Result<Library, String> {
+        Ok(Library::of(sources(root, "antt")?))
+    }
+
+    /// The library of some files: their paths below the root, and what is in them.
+    pub fn of(sources: Vec<(String, String)>) -> Library {
         let mut library = Library { files: Vec::new(), modules: BTreeMap::new() };
-        for path in files(&root.join("crates"), "antt") {
-            let text = fs::read_to_string(&path).map_err(|e| format!("{}: {e}", path.display()))?;
-            let name = path.strip_prefix(root).unwrap_or(&path).to_string_lossy().into_owned();
-            if let Some(module) = module_of(&name) {
+        for (path, text) in sources {
+            if let Some(module) = module_of(&path) {
                 library.modules.insert(module, library.files.len());
             }
-            library.files.push(File::read(name, &text));
+            library.files.push(File::read(path, &text));
         }
-        Ok(library)
+        library
+    }
+
+    /// Every item, with its file.
+    pub fn items(&self) -> impl Iterator<Item = (Need, &str, &Item)> {
+        let files = self.files.iter().enumerate();
+        files.flat_map(|(f, file)| file.items.iter().enumerate().map(move |(i, item)| ((f, i), file.path.as_str(), item)))
+    }
+
+    /// How operators bind, with their files.
+    pub fn fixities(&self) -> impl Iterator<Item = (&str, &str)> {
+        self.files.iter().flat_map(|f| f.fixities.iter().map(|x| (f.path.as_str(), x.as_str())))
+    }
+
+    /// What a name in a file leads to; nothing where it is the item's own, or a variable.
+    pub fn leads(&self, f: usize, token: &str) -> Option<Led> {
+        let file = &self.files[f];
+        if let Some(need) = self.resolve(file, f, token) {
+            return Some(Led::Here(need));
+        }
+        outside(&file.imports, &file.aliases, token)
     }
 
     fn file(&self, path: &str) -> Option<usize> {

@@ -1,8 +1,8 @@
-//! The contracts of Rattle's functions: the names that `requires` and `ensures` cite.
+//! The contracts of Rattle's functions, and the names that `requires` and `ensures` cite.
 use crate::antt::{import, tokens, Library, Need};
-use crate::files::files;
+use crate::files::sources;
+use crate::list::Functions;
 use std::collections::{BTreeMap, BTreeSet};
-use std::fs;
 use std::path::Path;
 
 /// The functions whose contracts are the project's promises, with the files that they stand in.
@@ -24,12 +24,11 @@ pub fn needs(root: &Path, library: &Library) -> Result<(BTreeSet<Need>, BTreeSet
     let mut public = BTreeSet::new();
     let mut inner = BTreeSet::new();
     let mut met = 0;
-    for path in files(&root.join("crates"), "rt") {
-        let text = fs::read_to_string(&path).map_err(|e| format!("{}: {e}", path.display()))?;
-        let name = path.strip_prefix(root).unwrap_or(&path).to_string_lossy().into_owned();
+    for (name, text) in sources(root, "rt")? {
         let (imports, aliases) = imported(&text);
         let called_from_c = |function: &str| text.contains(&format!("extern \"C\" fn {function}("));
-        for (function, cited) in contracts(&text) {
+        for Part { name: function, contract, .. } in parts(&text).into_iter().filter(|p| p.function) {
+            let cited = tokens(&contract);
             let promised = PUBLIC.contains(&(name.as_str(), function.as_str()));
             if called_from_c(&function) && !promised && name != COMPARED {
                 return Err(format!("{name}: {function} may be called from C, and its contract is on no list"));
@@ -53,9 +52,35 @@ pub fn needs(root: &Path, library: &Library) -> Result<(BTreeSet<Need>, BTreeSet
     }
 }
 
-type Imports = BTreeMap<String, (String, String)>;
+/// What the tables of docs/CONTRACTS.md have wrong: a function that its crate lacks, promises that are not the public ones.
+pub fn listed(root: &Path, promised: &[Functions], inside: &[Functions]) -> Result<Vec<String>, String> {
+    let mut held = BTreeSet::new();
+    for (path, text) in sources(root, "rt")? {
+        let name = path.split('/').nth(1).unwrap_or("").to_string();
+        held.extend(parts(&text).into_iter().filter(|p| p.function).map(|p| (name.clone(), p.name)));
+    }
+    let mut faults = Vec::new();
+    let mut told = BTreeSet::new();
+    for (row, (names, crates)) in promised.iter().chain(inside).enumerate() {
+        for function in names.iter().filter_map(|n| n.split("::").last()) {
+            let found = crates.iter().map(|c| (c.clone(), function.to_string())).find(|f| held.contains(f));
+            match found {
+                Some(f) if row < promised.len() => _ = told.insert(f),
+                Some(_) => {}
+                None => faults.push(format!("docs/CONTRACTS.md: {} has no function {function}", crates.join(", "))),
+            }
+        }
+    }
+    let public = PUBLIC.iter().map(|(path, f)| (path.split('/').nth(1).unwrap_or("").to_string(), f.to_string())).collect();
+    if told != public {
+        faults.push("docs/CONTRACTS.md: the promises to a caller are not those whose contracts are followed".to_string());
+    }
+    Ok(faults)
+}
 
-fn imported(text: &str) -> (Imports, BTreeMap<String, String>) {
+pub type Imports = BTreeMap<String, (String, String)>;
+
+pub fn imported(text: &str) -> (Imports, BTreeMap<String, String>) {
     let mut imports = BTreeMap::new();
     let mut aliases = BTreeMap::new();
     for used in text.split("ghost use ").skip(1) {
@@ -65,25 +90,64 @@ fn imported(text: &str) -> (Imports, BTreeMap<String, String>) {
     (imports, aliases)
 }
 
-/// Each function with the names that its contract cites.
-fn contracts(text: &str) -> Vec<(String, Vec<String>)> {
-    let mut out: Vec<(String, Vec<String>)> = Vec::new();
+/// A function, or a struct, an enum or a const.
+#[derive(Default)]
+pub struct Part {
+    pub function: bool,
+    pub name: String,
+    /// of a function, what stands before its contract: parameters and result
+    pub signature: String,
+    /// `requires` and `ensures`
+    pub contract: String,
+    /// what is left: of anything but a function all of it
+    pub body: String,
+}
+
+/// The parts of a file of code. A function's contract is where a line begins with `requires` or `ensures`, up to the end of
+/// its braces.
+pub fn parts(text: &str) -> Vec<Part> {
+    let mut out: Vec<Part> = Vec::new();
+    let mut attributes = String::new();
     let mut depth = 0;
+    // in what the last part's signature goes on, or in what is no part
+    let (mut signature, mut outside) = (false, true);
     for line in text.lines().filter(|l| !l.trim_start().starts_with("//")) {
+        let line = line.split(" // ").next().unwrap_or(line);
         if let Some(name) = function(line) {
-            out.push((name, Vec::new()));
+            out.push(Part { function: true, name, signature: std::mem::take(&mut attributes), ..Part::default() });
+            (signature, outside) = (true, false);
+        } else if depth == 0 && line.starts_with(|c: char| c.is_alphabetic()) {
+            let declared = declared(line);
+            outside = declared.is_none();
+            if let Some(name) = declared {
+                out.push(Part { name, body: std::mem::take(&mut attributes), ..Part::default() });
+            }
+            signature = false;
+        } else if line.starts_with('#') {
+            (attributes, outside) = (format!("{attributes} {line}"), true);
         }
         let word = line.trim_start();
         let starts = depth == 0 && (word.starts_with("requires") || word.starts_with("ensures"));
+        let Some(part) = out.last_mut() else { continue };
         if starts || depth > 0 {
-            if let Some((_, cited)) = out.last_mut() {
-                cited.extend(tokens(line));
-            }
+            part.contract += &format!(" {line}");
             depth += line.matches('{').count();
             depth = depth.saturating_sub(line.matches('}').count());
+        } else if !outside {
+            signature = signature && !line.starts_with('{');
+            let text = if signature { &mut part.signature } else { &mut part.body };
+            *text += &format!(" {line}");
+            signature = signature && !line.ends_with('{');
         }
     }
     out
+}
+
+/// The name that a line at the left declares.
+fn declared(line: &str) -> Option<String> {
+    let mut words = line.split(|c: char| !c.is_alphanumeric() && c != '_').filter(|w| !w.is_empty() && *w != "pub");
+    let kind = words.next()?;
+    ["struct", "enum", "const", "static", "type", "impl", "trait"].contains(&kind).then(|| words.next().unwrap_or("").to_string())
 }
 
 fn function(line: &str) -> Option<String> {
@@ -99,7 +163,7 @@ fn lost(library: &Library, imports: &Imports, token: &str) -> bool {
     module.starts_with("Rattle·") && !module.contains(".declared.") && library.named(module, name).is_none()
 }
 
-fn resolve(library: &Library, imports: &Imports, aliases: &BTreeMap<String, String>, token: &str) -> Option<Need> {
+pub fn resolve(library: &Library, imports: &Imports, aliases: &BTreeMap<String, String>, token: &str) -> Option<Need> {
     if let Some((module, name)) = imports.get(token) {
         return library.named(module, name);
     }

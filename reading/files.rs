@@ -1,4 +1,4 @@
-//! The files below a folder.
+//! The files of the project.
 use std::fs;
 use std::path::{Path, PathBuf};
 
@@ -16,4 +16,15 @@ pub fn files(dir: &Path, extension: &str) -> Vec<PathBuf> {
         }
     }
     out
+}
+
+/// The files of the crates with an extension: their paths below the root, and what is in them.
+pub fn sources(root: &Path, extension: &str) -> Result<Vec<(String, String)>, String> {
+    let mut out = Vec::new();
+    for path in files(&root.join("crates"), extension) {
+        let text = fs::read_to_string(&path).map_err(|e| format!("{}: {e}", path.display()))?;
+        let name = path.strip_prefix(root).unwrap_or(&path).to_string_lossy().into_owned();
+        out.push((name, text));
+    }
+    Ok(out)
 }

@@ -1,4 +1,5 @@
-//! The lists of docs/CLAIMS.md: the files to read, the theorems, the computed tables.
+//! The lists of docs/CLAIMS.md (the files to read, the theorems, the computed tables) and of docs/CONTRACTS.md (the
+//! functions, the files that only inner contracts cite).
 use crate::antt::Library;
 use std::collections::BTreeSet;
 use std::fs;
@@ -13,11 +14,17 @@ pub struct Claims {
     pub tables: BTreeSet<String>,
     /// the tables by name, with their files
     pub rows: Vec<(String, String)>,
+    /// the functions that the project promises, and those inside the engine: names, and the crates that have them
+    pub promised: Vec<Functions>,
+    pub inside: Vec<Functions>,
     /// the lines to believe, as the document says
     lines: Option<usize>,
     /// the lines of inner definitions that the theorems over what the code holds need beside them
     inner_lines: Option<usize>,
 }
+
+/// Functions of a row, by their names, and the crates of that row.
+pub type Functions = (Vec<String>, Vec<String>);
 
 /// The rows of the tables under a heading, as cells.
 fn rows(text: &str, heading: &str) -> Vec<Vec<String>> {
@@ -58,12 +65,21 @@ fn named(text: &str, heading: &str) -> Vec<(String, String)> {
     out
 }
 
+/// The functions of a table, but those that stand for several (`leaf_…`).
+fn functions(text: &str, heading: &str) -> Vec<Functions> {
+    let whole = |names: Vec<String>| names.into_iter().filter(|n| !n.contains('…')).collect();
+    rows(text, heading).iter().skip(1).filter_map(|row| Some((whole(quoted(row.first()?)), quoted(row.get(1)?)))).collect()
+}
+
 impl Claims {
     pub fn read(root: &Path) -> Result<Claims, String> {
-        let text = fs::read_to_string(root.join("docs/CLAIMS.md")).map_err(|e| format!("docs/CLAIMS.md: {e}"))?;
+        let document = |path: &str| fs::read_to_string(root.join(path)).map_err(|e| format!("{path}: {e}"));
+        let (text, contracts) = (document("docs/CLAIMS.md")?, document("docs/CONTRACTS.md")?);
         Ok(Claims {
             believed: files(&text, "Definitions, in reading order", 0),
-            cited: files(&text, "What only inner contracts cite", 0),
+            cited: files(&contracts, "What only inner contracts cite", 0),
+            promised: functions(&contracts, "The promises to a caller"),
+            inside: functions(&contracts, "Inside the engine"),
             tables: files(&text, "Computed tables", 1),
             theorems: named(&text, "Theorems over the definitions"),
             inner_theorems: named(&text, "Theorems over what the code holds"),
@@ -77,7 +93,10 @@ impl Claims {
     pub fn compare(&self, believed: &BTreeSet<String>, cited: &BTreeSet<String>, told: &BTreeSet<String>, library: &Library) -> Vec<String> {
         let mut faults = Vec::new();
         let inner: BTreeSet<String> = cited.difference(believed).cloned().collect();
-        for (list, needed, what) in [(&self.believed, believed, "the reading list"), (&self.cited, &inner, "the list of inner definitions")] {
+        for (list, needed, what) in [
+            (&self.believed, believed, "the reading list of docs/CLAIMS.md"),
+            (&self.cited, &inner, "the list of inner definitions in docs/CONTRACTS.md"),
+        ] {
             for file in needed.difference(list) {
                 faults.push(format!("{what} lacks {file}"));
             }

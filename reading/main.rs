@@ -1,18 +1,28 @@
 //! What a reader has to believe: the files of definitions that the public contracts, the theorems over the definitions in
-//! docs/CLAIMS.md and the computed tables need, found by names. Held to the reading list of
-//! docs/CLAIMS.md; see reading/README.md.
+//! docs/CLAIMS.md and the computed tables need, found by names. Held to the lists of docs/CLAIMS.md and docs/CONTRACTS.md;
+//! see reading/README.md. Also what moved between two trees.
 mod antt;
 mod contracts;
 mod files;
 mod list;
+mod moved;
+mod trials;
 
 use antt::{Library, Need};
+use moved::Tree;
 use std::collections::BTreeSet;
 use std::path::Path;
 
 fn main() {
-    let show = std::env::args().nth(1).unwrap_or_default();
-    match run(Path::new("."), &show) {
+    let args: Vec<String> = std::env::args().skip(1).collect();
+    let args: Vec<&str> = args.iter().map(String::as_str).collect();
+    let told = match args[..] {
+        ["moved", old, new] => compared(old, new, false),
+        ["moved", old, new, "--names"] => compared(old, new, true),
+        ["trials"] => trials::all().map(|n| format!("reading: {n} small trees, of which reading/moved tells what moved")),
+        _ => run(Path::new("."), args.first().unwrap_or(&"")),
+    };
+    match told {
         Ok(text) => println!("{text}"),
         Err(faults) => {
             for fault in &faults {
@@ -23,12 +33,18 @@ fn main() {
     }
 }
 
+/// What moved between the trees in two folders.
+fn compared(old: &str, new: &str, names: bool) -> Result<String, Vec<String>> {
+    let read = |root: &str| Tree::read(Path::new(root)).map_err(|e| vec![e]);
+    Ok(moved::compare(&read(old)?, &read(new)?, names).trim_end().to_string())
+}
+
 /// The whole check: the line to print, or what is wrong.
 fn run(root: &Path, show: &str) -> Result<String, Vec<String>> {
     let library = Library::read(root).map_err(|e| vec![e])?;
     let claims = list::Claims::read(root).map_err(|e| vec![e])?;
     let (public, inner) = contracts::needs(root, &library).map_err(|e| vec![e])?;
-    let mut faults = Vec::new();
+    let mut faults = contracts::listed(root, &claims.promised, &claims.inside).map_err(|e| vec![e])?;
     let mut roots: BTreeSet<Need> = public;
     roots.extend(stated(&library, &claims.theorems, &mut faults));
     let told = stated(&library, &claims.inner_theorems, &mut faults);
@@ -64,7 +80,7 @@ fn run(root: &Path, show: &str) -> Result<String, Vec<String>> {
     faults.extend(claims.compare(&believed, &cited, &library.files_for(&told), &library));
     if faults.is_empty() {
         Ok(format!(
-            "reading: {} files, {} lines to believe, as docs/CLAIMS.md lists them; {} further files that inner contracts and theorems cite",
+            "reading: {} files, {} lines to believe, as docs/CLAIMS.md lists them; {} further files that inner contracts and theorems cite, as docs/CONTRACTS.md does",
             believed.len(),
             library.lines(&believed),
             cited.difference(&believed).count()

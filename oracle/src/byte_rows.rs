@@ -1,5 +1,5 @@
-//! The rows of the computed tables on bytes (`Rows.antt` in proofs/ of opc, tables, vm, report, lower
-//! and boundary, and `Written.antt` of opc) and on numbers (`Rows.antt` of numeric): each is answered
+//! The rows of the computed tables on bytes (`Rows.antt` in proofs/ of opc, tables, vm and boundary,
+//! `Written.antt` of opc, `Reports.antt` of vm and `Lowered.antt` of boundary) and on numbers (`Rows.antt` of numeric): each is answered
 //! by the original, by the oracle's own reader or writer of its bytes, by the driver's rule, or by
 //! Rust's `is_finite`.
 
@@ -386,9 +386,9 @@ const STOPS: [(&str, u8); 18] = [
     ("IndexOutOfBounds", 31),
     ("EmptyRegister", 32),
     ("KeyAbsent", 33),
-    ("NotSingle", 34),
+    ("Nested", 34),
     ("StackFull", 35),
-    ("KeysFull", 36),
+    ("TableFull", 36),
     ("NoIndex", 38),
 ];
 

@@ -4,6 +4,7 @@
 use crate::driver::{End, Machine};
 use crate::lower::lower_file;
 use crate::program_bytes::{self, Code};
+use crate::refuse::{BUFFER_TOO_SHORT, PROGRAM_REFUSED, STATE_REFUSED};
 use crate::state_bytes::{self, Held};
 
 pub const REPORT: usize = 48;
@@ -23,7 +24,7 @@ pub fn lowered(file: &[u8]) -> (u64, Vec<u8>) {
 
 pub fn lower(file: &[u8], program: &mut [u8]) -> u64 {
     if program.len() < program_bytes::SIZE {
-        return 9;
+        return BUFFER_TOO_SHORT.into();
     }
     let (number, bytes) = lowered(file);
     over(program, &bytes);
@@ -32,10 +33,10 @@ pub fn lower(file: &[u8], program: &mut [u8]) -> u64 {
 
 pub fn start(program: &[u8], state: &mut [u8]) -> u64 {
     if program.len() < program_bytes::SIZE || state.len() < state_bytes::SIZE {
-        return 9;
+        return BUFFER_TOO_SHORT.into();
     }
     let Ok(code) = Code::read(program) else {
-        return 8;
+        return PROGRAM_REFUSED.into();
     };
     over(state, &state_bytes::bytes(&mut code.machine()));
     0
@@ -46,14 +47,14 @@ pub fn run(program: &[u8], state: &mut [u8], steps: u64, report: &mut [u8]) -> u
         || state.len() < state_bytes::SIZE
         || report.len() < REPORT
     {
-        return 9;
+        return BUFFER_TOO_SHORT.into();
     }
     let Ok(code) = Code::read(program) else {
-        return 8;
+        return PROGRAM_REFUSED.into();
     };
     let held = match Held::read(state, code.instrs.len()) {
         Ok(held) if held.count.checked_add(steps).is_some() => held,
-        _ => return 10,
+        _ => return STATE_REFUSED.into(),
     };
     let mut machine = held.machine(&code);
     let before = machine.count;
@@ -65,13 +66,13 @@ pub fn run(program: &[u8], state: &mut [u8], steps: u64, report: &mut [u8]) -> u
 
 pub fn read_name(state: &[u8], text: u64, out: &mut [u8]) -> u64 {
     if state.len() < state_bytes::SIZE || out.len() < VALUE {
-        return 9;
+        return BUFFER_TOO_SHORT.into();
     }
     if text > 63 {
-        return 8;
+        return PROGRAM_REFUSED.into();
     }
     if Held::read(state, 1024).is_err() {
-        return 10;
+        return STATE_REFUSED.into();
     }
     let at = state_bytes::NAMES + state_bytes::SLOT * text as usize;
     over(out, &state[at..at + state_bytes::SLOT]);

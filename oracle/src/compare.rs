@@ -11,6 +11,7 @@ use crate::listing::{names_text, whole_machine};
 use crate::lower::lower_file;
 use crate::program::code_of_text;
 use crate::program_bytes::Code;
+use crate::refuse::SCRIPT_TOO_LARGE;
 use crate::rng::Rng;
 use crate::tree::{file_of, is_plain, Node};
 use crate::walk::{walk, Cut};
@@ -59,7 +60,7 @@ pub fn compare(seed: u64, count: u64) -> Result<(), String> {
 fn one(file: &[u8], rng: &mut Rng, figures: &mut Figures) -> Result<(), String> {
     let (root, lowered) = match lower_file(file) {
         Ok(both) => both,
-        Err(7) => {
+        Err(SCRIPT_TOO_LARGE) => {
             figures.refused += 1;
             return Ok(());
         }

@@ -460,7 +460,43 @@ pub fn wrong_trees() -> Vec<Node> {
             block(vec![if_(yes(), empty(), vec![], vec![function(2, &[], empty())])]),
         )]),
     ]);
+    out.extend(keys_twice());
     out
+}
+
+/// A table with a key twice at each place that holds one: as a right side, or in an assignment where an
+/// expression stands.
+fn keys_twice() -> Vec<Node> {
+    let twice = || table(vec![(1, no()), (2, no()), (1, yes())]);
+    let expr = || assign(3, twice());
+    let empty = || block(vec![]);
+    let body = || block(vec![set(3, twice())]);
+    let last = vec![
+        block(vec![block(vec![block(vec![stmt(expr())])])]),
+        give(Some(expr())),
+        set(1, table(vec![(1, expr())])),
+        set(1, table(vec![(1, no()), (2, expr())])),
+        set(1, access(1, expr())),
+        set(1, expr()),
+        stmt(assign(1, expr())),
+        stmt(mutate(1, expr(), no())),
+        stmt(mutate(1, no(), expr())),
+        stmt(call(1, vec![expr(), no()])),
+        stmt(call(1, vec![no(), expr()])),
+        stmt(binary(1, expr(), no())),
+        stmt(binary(1, no(), expr())),
+        stmt(unary(1, expr())),
+        for_(1, 2, call(1, vec![no(), expr()]), empty()),
+        for_(1, 2, name(1), body()),
+        if_(expr(), empty(), vec![], vec![]),
+        if_(no(), body(), vec![], vec![]),
+        if_(no(), empty(), vec![(expr(), empty())], vec![]),
+        if_(no(), empty(), vec![(no(), body())], vec![]),
+        if_(no(), empty(), vec![(no(), empty())], vec![decl(1, None), set(3, twice())]),
+        function(1, &[2], body()),
+        for_(1, 2, call(1, vec![table(vec![])]), empty()),
+    ];
+    last.into_iter().map(|statement| program(vec![statement])).collect()
 }
 
 /// Files whose child counts do not use up the nodes.

@@ -78,13 +78,16 @@ fn depths_and_loops() -> Vec<Node> {
         out.push(program(vec![set(1, chain)]));
         out.push(program(vec![nested_ifs(depth)]));
     }
+    for deepest in [32, 33] {
+        out.extend(each_kind().into_iter().map(|last| down_to(deepest, last)));
+    }
     for loops in [7, 8, 9] {
         out.push(nested_loops(loops, 1));
     }
     out.push(nested_loops(8, 2));
     out.push(nested_loops(8, 4));
-    for inner in [4, 5] {
-        out.push(loops_through_function(4, inner));
+    for (outer, inner) in [(4, 4), (4, 5), (7, 1), (8, 1), (0, 8), (0, 9)] {
+        out.push(loops_through_function(outer, inner));
     }
     for functions in [1, 2] {
         let innermost = block(vec![decl(1, None)]);
@@ -94,6 +97,44 @@ fn depths_and_loops() -> Vec<Node> {
         out.push(program(vec![nest]));
     }
     out
+}
+
+/// Statements with each kind of node, each with its deepest node below that kind.
+fn each_kind() -> Vec<Node> {
+    let empty = || block(vec![]);
+    let negated = || unary(1, yes());
+    vec![
+        set(1, yes()),
+        give(Some(yes())),
+        set(1, table(vec![(1, negated())])),
+        set(1, table(vec![])),
+        set_array(1, vec![no()]),
+        set(1, access(1, negated())),
+        stmt(mutate(1, negated(), no())),
+        stmt(mutate(1, no(), negated())),
+        stmt(call(1, vec![no(), negated()])),
+        stmt(assign(1, negated())),
+        stmt(binary(1, negated(), no())),
+        for_(1, 2, name(1), empty()),
+        for_(1, 2, call(1, vec![negated()]), empty()),
+        for_(1, 2, name(1), block(vec![decl(1, None)])),
+        if_(negated(), empty(), vec![], vec![]),
+        if_(no(), empty(), vec![], vec![set(1, no())]),
+        if_(no(), empty(), vec![(negated(), empty())], vec![]),
+        if_(no(), empty(), vec![(no(), block(vec![decl(1, None)]))], vec![]),
+        function(1, &[2], empty()),
+        function(1, &[], block(vec![decl(1, None)])),
+    ]
+}
+
+fn height(node: &Node) -> usize {
+    1 + node.kids.iter().map(height).max().unwrap_or(0)
+}
+
+/// A statement in as many Blocks as put its deepest node at a depth.
+fn down_to(deepest: usize, last: Node) -> Node {
+    let blocks = deepest - 1 - height(&last);
+    program(vec![blocks_to(blocks, last)])
 }
 
 /// Ifs inside each other's Blocks; each takes two levels.

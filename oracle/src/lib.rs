@@ -41,6 +41,8 @@ pub mod rows;
 pub mod special;
 pub mod state_bytes;
 pub mod store;
+pub mod terms;
 pub mod tree;
 pub mod value_text;
 pub mod walk;
+pub mod walk_rows;

@@ -10,6 +10,7 @@ use crate::original::sifc_bytecode::instr::Instr;
 use crate::original::sifc_bytecode::opc::{BinOpKind, JmpOpKind, Op, UnOpKind};
 use crate::original::sifc_bytecode::sifv::SifVal;
 use crate::original::sifc_bytecode::tables;
+use crate::refuse::PROGRAM_REFUSED;
 use crate::state_bytes::{number_at, single_kind, single_number};
 
 pub const SIZE: usize = 40_960;
@@ -93,21 +94,21 @@ impl Code {
         let count = u16_at(bytes, COUNT);
         let start = u16_at(bytes, START);
         if count > ENTRIES || start > count {
-            return Err(8);
+            return Err(PROGRAM_REFUSED);
         }
         let mut instrs = Vec::with_capacity(count);
         let mut first = 0;
         for index in 0..count {
             let record = Record { bytes: &bytes[16 * index..16 * index + 16], whole: bytes, first };
             let label = u16_at(record.bytes, 2);
-            let op = record.op().filter(|_| label <= 1023).ok_or(8)?;
+            let op = record.op().filter(|_| label <= 1023).ok_or(PROGRAM_REFUSED)?;
             first += record.taken();
             instrs.push(Instr::new(label, op, index + 1));
         }
         let code = Code::new(instrs, start);
         let mut stored = vec![0; SIZE];
         put_tables(&mut stored, &code.labels, &code.functions);
-        (stored[LABELS..COUNT] == bytes[LABELS..COUNT]).then_some(code).ok_or(8)
+        (stored[LABELS..COUNT] == bytes[LABELS..COUNT]).then_some(code).ok_or(PROGRAM_REFUSED)
     }
 }
 

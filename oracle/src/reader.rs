@@ -1,6 +1,9 @@
 //! Reads a tree file: document 01's checks in their order, each made on the whole file before
 //! the next begins; 39 (document 02, M-104) is checked with 5.
 
+use crate::refuse::{
+    FILE_COUNTS, FILE_CUT, FILE_NUMBERS, FILE_STRUCTURE, FILE_TEXTS, NUMBER_NOT_FINITE,
+};
 use crate::tree::kind::*;
 use crate::tree::{body_length, is_expression, is_right_side, is_statement, Node};
 
@@ -20,7 +23,7 @@ pub fn read(file: &[u8]) -> Result<Node, u8> {
     let bodies = bodies(file, &contents)?;
     texts_allowed(&bodies.texts)?;
     numbers_known(&contents, &bodies)?;
-    structure(&contents, &bodies).ok_or(4)
+    structure(&contents, &bodies).ok_or(FILE_STRUCTURE)
 }
 
 struct Contents {
@@ -37,17 +40,17 @@ struct Bodies<'f> {
 
 fn contents(file: &[u8]) -> Result<Contents, u8> {
     if file.len() < 3 {
-        return Err(1);
+        return Err(FILE_CUT);
     }
     let node_count = usize::from(file[0]) * 256 + usize::from(file[1]);
     let text_count = usize::from(file[2]);
     if !(1..=NODES).contains(&node_count) || !(1..=TEXTS).contains(&text_count) {
-        return Err(2);
+        return Err(FILE_COUNTS);
     }
     let nodes_at = 3 + text_count;
     let end = nodes_at + 2 * node_count;
     if file.len() < end {
-        return Err(1);
+        return Err(FILE_CUT);
     }
     let lengths = file[3..nodes_at].iter().map(|b| usize::from(*b)).collect();
     let nodes = file[nodes_at..end].chunks(2).map(|e| (e[0], usize::from(e[1]))).collect();
@@ -56,12 +59,12 @@ fn contents(file: &[u8]) -> Result<Contents, u8> {
 
 fn kinds_known(contents: &Contents) -> Result<(), u8> {
     let known = contents.nodes.iter().all(|(kind, _)| body_length(*kind).is_some());
-    known.then_some(()).ok_or(4)
+    known.then_some(()).ok_or(FILE_STRUCTURE)
 }
 
 fn lengths_allowed(contents: &Contents) -> Result<(), u8> {
     let allowed = contents.lengths.iter().all(|length| *length <= TEXT_BYTES);
-    allowed.then_some(()).ok_or(3)
+    allowed.then_some(()).ok_or(FILE_TEXTS)
 }
 
 /// Cuts the bodies out of the file; they have to end exactly with it.
@@ -70,7 +73,7 @@ fn bodies<'f>(file: &'f [u8], contents: &Contents) -> Result<Bodies<'f>, u8> {
     let total: usize =
         contents.lengths.iter().sum::<usize>() + contents.nodes.iter().map(of_kind).sum::<usize>();
     if contents.end + total != file.len() {
-        return Err(1);
+        return Err(FILE_CUT);
     }
     let mut at = contents.end;
     let mut cut = |length: usize| {
@@ -87,7 +90,7 @@ fn texts_allowed(texts: &[&[u8]]) -> Result<(), u8> {
     let printable = texts.iter().all(|t| t.iter().all(|b| (32..=126).contains(b)));
     let ascending = later.windows(2).all(|pair| pair[0] < pair[1]);
     let first = texts[0] == b"fortmp" && !later.contains(&texts[0]);
-    (printable && ascending && first).then_some(()).ok_or(3)
+    (printable && ascending && first).then_some(()).ok_or(FILE_TEXTS)
 }
 
 /// One pass over the bodies: the first node at fault gives the number.
@@ -95,8 +98,8 @@ fn numbers_known(contents: &Contents, bodies: &Bodies) -> Result<(), u8> {
     let count = bodies.texts.len();
     let mut nodes = contents.nodes.iter().zip(&bodies.nodes);
     nodes.try_for_each(|((kind, _), body)| {
-        fields_known(*kind, body, count).then_some(()).ok_or(5)?;
-        (*kind != NUM || is_finite(body)).then_some(()).ok_or(39)
+        fields_known(*kind, body, count).then_some(()).ok_or(FILE_NUMBERS)?;
+        (*kind != NUM || is_finite(body)).then_some(()).ok_or(NUMBER_NOT_FINITE)
     })
 }
 

@@ -1,7 +1,20 @@
-//! Refusals 6 and 7, raised from inside the original's lowering as typed panics.
+//! The refusals by name; 6 and 7, raised from inside the original's lowering as typed panics.
 
 use std::panic::{catch_unwind, panic_any, AssertUnwindSafe};
 use std::sync::atomic::{AtomicBool, Ordering};
+
+/// The refusals (docs/FORMATS.md, "Refusals").
+pub const FILE_CUT: u8 = 1;
+pub const FILE_COUNTS: u8 = 2;
+pub const FILE_TEXTS: u8 = 3;
+pub const FILE_STRUCTURE: u8 = 4;
+pub const FILE_NUMBERS: u8 = 5;
+pub const NO_REGISTER: u8 = 6;
+pub const SCRIPT_TOO_LARGE: u8 = 7;
+pub const PROGRAM_REFUSED: u8 = 8;
+pub const BUFFER_TOO_SHORT: u8 = 9;
+pub const STATE_REFUSED: u8 = 10;
+pub const NUMBER_NOT_FINITE: u8 = 39;
 
 pub const REGISTERS: usize = 96;
 pub const INSTRUCTIONS: usize = 1024;
@@ -11,19 +24,19 @@ pub struct Refuse(pub u8);
 
 pub fn register_free(next: usize) {
     if next >= REGISTERS {
-        panic_any(Refuse(7));
+        panic_any(Refuse(SCRIPT_TOO_LARGE));
     }
 }
 
 pub fn instruction_free(taken: usize) {
     if taken >= INSTRUCTIONS {
-        panic_any(Refuse(7));
+        panic_any(Refuse(SCRIPT_TOO_LARGE));
     }
 }
 
 pub fn register_before(next: usize) -> usize {
     if next == 0 {
-        panic_any(Refuse(6));
+        panic_any(Refuse(NO_REGISTER));
     }
     next - 1
 }

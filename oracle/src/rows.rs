@@ -9,18 +9,23 @@ use crate::byte_rows::{
 };
 use crate::listing::{listing, state_of_file, STEPS};
 use crate::program::run_text;
+use crate::reader::read as read_file;
+use crate::terms::{abbreviations_of, term, Term};
 use crate::value_text::NAN;
+use crate::walk_rows::figures_of;
 
 /// Compares every row of the tables in the folder of the crates with the original.
 pub fn check(crates: &str) -> Result<(), String> {
     let read = |name: &str| {
         fs::read_to_string(format!("{crates}/{name}")).map_err(|e| format!("{name}: {e}"))
     };
-    let files = files_of(&read("engine/proofs/Cases.antt")?)?
-        + files_of(&read("engine/proofs/Rows.antt")?)?;
-    let programs = programs_of(&read("engine/proofs/Programs.antt")?)?;
+    let files = files_of(&read("listing_text/proofs/Cases.antt")?)?
+        + files_of(&read("listing_text/proofs/Rows.antt")?)?;
+    let programs = programs_of(&read("listing_text/proofs/Programs.antt")?)?;
     let lowerings = lowerings_of(&read("compiler/proofs/Computed.antt")?)?;
     let readings = readings_of(&read("ast/proofs/Computed.antt")?)?;
+    let walked = "walk/proofs/Computed.antt";
+    let figures = figures_of(&read(walked)?).map_err(|why| format!("{walked}: {why}"))?;
     // rows on bytes and on numbers, a line each: every line that ends in a proof has to have been read
     let each_read = |name: &str, rows_of: fn(&str) -> Result<usize, String>| {
         let table = read(name)?;
@@ -36,19 +41,19 @@ pub fn check(crates: &str) -> Result<(), String> {
     let buffers = each_read("tables/proofs/Rows.antt", buffers_of)?;
     let slots = each_read("sifv/proofs/Rows.antt", slots_of)?;
     let states = each_read("vm/proofs/Rows.antt", states_of)?;
-    let reports = each_read("report/proofs/Rows.antt", reports_of)?;
+    let reports = each_read("vm/proofs/Reports.antt", reports_of)?;
     let numbers = "numeric/proofs/Rows.antt";
     let patterns = patterns_of(&read(numbers)?)?;
     let both = |table: &str| Ok(indexes_of(table)? + patterns_of(table)?);
     let indexes = each_read(numbers, both)? - patterns;
-    let calls = each_read("lower/proofs/Rows.antt", calls_of)?
+    let calls = each_read("boundary/proofs/Lowered.antt", calls_of)?
         + each_read("boundary/proofs/Rows.antt", calls_of)?;
     println!(
         "rows: {files} files, {programs} programs, {lowerings} lowerings, {readings} readings, \
          {records} records, {buffers} program buffers, {slots} slots, {states} states, \
          {reports} reports and {calls} calls of the computed tables, as by the original, \
-         a 38 by the driver's rule, and {indexes} indexes by that rule; {patterns} numbers finite \
-         or not, as by Rust"
+         a 38 by the driver's rule, and {indexes} indexes by that rule; {figures} figures by the \
+         oracle's walk and bound; {patterns} numbers finite or not, as by Rust"
     );
     Ok(())
 }
@@ -76,18 +81,18 @@ fn machine_lines(text: &str) -> String {
     text.lines().filter(|line| !shared(line)).map(|line| format!("{line}\n")).collect()
 }
 
-/// The lines of a file's one list of such rows, behind `name =` and before `[]`, without comments.
+/// The lines of a file's lists of such rows, each behind `name =` and before `[]`, without comments.
 fn list<'t>(table: &'t str, of: &str) -> Result<Vec<&'t str>, String> {
-    let head = format!(": List {of}");
-    let (_, behind) = table.split_once(&head).ok_or(format!("no list of {of}"))?;
-    let (_, list) = behind.split_once(" =\n").ok_or(format!("no list of {of}"))?;
-    let (list, rest) =
-        list.split_once("\n    []\n").ok_or(format!("no end of the list of {of}"))?;
-    if rest.contains(&head) {
-        return Err(format!("two lists of {of}"));
+    let head = format!(": List {of}\n");
+    let mut out = Vec::new();
+    for behind in table.split(&head).skip(1) {
+        let (_, list) = behind.split_once(" =\n").ok_or(format!("no list of {of}"))?;
+        let (list, _) =
+            list.split_once("\n    []\n").ok_or(format!("no end of the list of {of}"))?;
+        let lines = list.lines().map(str::trim);
+        out.extend(lines.filter(|line| !line.is_empty() && !line.starts_with("--")));
     }
-    let lines = list.lines().map(str::trim);
-    Ok(lines.filter(|line| !line.is_empty() && !line.starts_with("--")).collect())
+    Ok(out)
 }
 
 /// The text of a line that is one quoted text, with what may stand behind it.
@@ -110,14 +115,16 @@ fn files_of(table: &str) -> Result<usize, String> {
             return Err(format!("not the original's: {}", row[0]));
         }
     }
-    at_least_one(lines.len() / 3)
+    all_read(table, "row", lines.len() / 3)
 }
 
-fn at_least_one(count: usize) -> Result<usize, String> {
-    if count == 0 {
-        Err(String::from("no rows"))
-    } else {
+/// That so many rows were read, and no row of the table was left out.
+fn all_read(table: &str, word: &str, count: usize) -> Result<usize, String> {
+    let rows = table.lines().filter(|line| line.starts_with(&format!("    {word} "))).count();
+    if count > 0 && rows == count {
         Ok(count)
+    } else {
+        Err(format!("{count} of {rows} rows read"))
     }
 }
 
@@ -161,7 +168,7 @@ fn lowerings_of(table: &str) -> Result<usize, String> {
         }
         count += 1;
     }
-    at_least_one(count)
+    all_read(table, "row", count)
 }
 
 /// What a row says its tree is lowered to, in the listing's words.
@@ -179,21 +186,25 @@ fn lowered_text<'l>(lines: &mut impl Iterator<Item = &'l &'l str>) -> Result<Str
 
 /// Rows with a file and what it is read as: a refusal or a tree.
 fn readings_of(table: &str) -> Result<usize, String> {
+    let short = abbreviations_of(table)?;
     let lines = list(table, "Row")?;
     for line in &lines {
         let (file, behind) = file_row(line)?;
-        let read = behind.strip_suffix(" refl ∷").ok_or(format!("a row cannot be read: {line}"))?;
-        let lowered = lowering(&file);
-        let number = lowered.strip_prefix("refused ").map(str::trim_end);
-        let same = match number {
-            Some(number) => read == format!("(Refused {number})"),
-            None => read.starts_with("(Tree "),
-        };
-        if !same {
-            return Err(format!("not the original's: {line}"));
+        let stated = behind.strip_suffix(" refl ∷").ok_or(format!("no row: {line}"))?;
+        let stated = short.expand(&term(stated)?);
+        if !is_read_as(&file, &stated)? {
+            return Err(format!("not as the oracle's reader: {line}"));
         }
     }
-    at_least_one(lines.len())
+    all_read(table, "row", lines.len())
+}
+
+fn is_read_as(file: &[u8], stated: &Term) -> Result<bool, String> {
+    match (stated.parts(), read_file(file)) {
+        (("Refused", [number]), Err(own)) => Ok(number.number()? == u64::from(own)),
+        (("Tree", [script]), Ok(own)) => Ok(script.script()? == own),
+        _ => Ok(false),
+    }
 }
 
 /// The `op` lines of instructions, up to a list's end.
@@ -236,7 +247,7 @@ fn programs_of(table: &str) -> Result<usize, String> {
         }
         count += 1;
     }
-    at_least_one(count)
+    all_read(table, "programRow", count)
 }
 
 /// An instruction as the listing writes it: label, operation, operands.

@@ -9,6 +9,7 @@ use crate::original::sifc_bytecode::opc::Op;
 use crate::original::sifc_bytecode::sifv::SifVal;
 use crate::program::code_of_text;
 use crate::program_bytes::Code;
+use crate::refuse::NUMBER_NOT_FINITE;
 use crate::tree::file_of;
 
 /// The steps that each is given.
@@ -85,7 +86,7 @@ fn code(kind: &str, given: &[u8]) -> Result<Option<Code>, String> {
     }
     match lower_file(given) {
         Ok((_, lowered)) => Ok(Some(Code::of_lowered(lowered))),
-        Err(39) => Err(String::from("a tree with an infinity or a NaN as a literal")),
+        Err(NUMBER_NOT_FINITE) => Err(String::from("a tree with an infinity or a NaN as a literal")),
         Err(_) => Ok(None),
     }
 }

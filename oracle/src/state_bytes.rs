@@ -7,7 +7,7 @@ use crate::driver::{Machine, CALL_STACK, KEYS, VALUE_STACK};
 use crate::names::{name_of, text_of};
 use crate::original::sifc_bytecode::sifv::SifVal;
 use crate::program_bytes::Code;
-use crate::refuse::REGISTERS;
+use crate::refuse::{REGISTERS, STATE_REFUSED};
 use crate::value_text::NAN;
 
 pub const SIZE: usize = 65_536;
@@ -135,12 +135,12 @@ impl Held {
         let position = u16_at(bytes, POSITION);
         let sizes = values <= VALUE_STACK && frames <= CALL_STACK && position <= instructions;
         if !sizes || !zero(&bytes[REST..USED]) {
-            return Err(10);
+            return Err(STATE_REFUSED);
         }
         let names = slots(NAMES, TEXTS)?;
         let held = |text: usize| number_at(bytes, MARK) >> text & 1 == 1;
         if (0..TEXTS).any(|text| names[text].is_some() != held(text)) {
-            return Err(10);
+            return Err(STATE_REFUSED);
         }
         Ok(Held {
             registers: slots(0, REGISTERS)?,
@@ -181,26 +181,26 @@ fn zero(bytes: &[u8]) -> bool {
 /// The slots below the depth hold values, those above are empty.
 fn stack(slots: Vec<Option<SifVal>>, depth: usize) -> Result<Vec<SifVal>, u8> {
     let fitting = slots.iter().enumerate().all(|(index, slot)| slot.is_some() == (index < depth));
-    fitting.then(|| slots.into_iter().flatten().collect()).ok_or(10)
+    fitting.then(|| slots.into_iter().flatten().collect()).ok_or(STATE_REFUSED)
 }
 
 fn calls(bytes: &[u8], depth: usize, instructions: usize) -> Result<Vec<usize>, u8> {
     let (frames, above) = bytes.split_at(4 * depth);
     let position = |frame: &[u8]| {
         let position = u16_at(frame, 0);
-        (position < instructions && zero(&frame[2..])).then_some(position).ok_or(10)
+        (position < instructions && zero(&frame[2..])).then_some(position).ok_or(STATE_REFUSED)
     };
     let positions = frames.chunks(4).map(position).collect();
     if zero(above) {
         positions
     } else {
-        Err(10)
+        Err(STATE_REFUSED)
     }
 }
 
 fn functions(bytes: &[u8], instructions: usize) -> Result<Vec<Option<usize>>, u8> {
     let index = |entry: &[u8]| match u16_at(entry, 0).checked_sub(1) {
-        Some(index) if index >= instructions => Err(10),
+        Some(index) if index >= instructions => Err(STATE_REFUSED),
         index => Ok(index),
     };
     bytes.chunks(2).map(index).collect()
@@ -210,24 +210,24 @@ fn functions(bytes: &[u8], instructions: usize) -> Result<Vec<Option<usize>>, u8
 pub fn read_slot(slot: &[u8]) -> Result<Option<SifVal>, u8> {
     let (kind, length) = (slot[0], usize::from(slot[1]));
     if !zero(&slot[2..8]) || !zero(&slot[248..]) {
-        return Err(10);
+        return Err(STATE_REFUSED);
     }
     match kind {
-        0..=4 if length != 0 || !zero(&slot[16..248]) => Err(10),
-        0 => zero(&slot[8..16]).then_some(None).ok_or(10),
+        0..=4 if length != 0 || !zero(&slot[16..248]) => Err(STATE_REFUSED),
+        0 => zero(&slot[8..16]).then_some(None).ok_or(STATE_REFUSED),
         1..=4 => single(kind, number_at(slot, 8)).map(Some),
         5 if length <= ITEMS && zero(&slot[232..248]) => {
             Ok(Some(SifVal::Arr(read_items(slot, length)?)))
         }
         6 if length <= KEYS => read_table(slot, length).map(Some),
-        _ => Err(10),
+        _ => Err(STATE_REFUSED),
     }
 }
 
 /// Items of an array or a table; the bytes behind them are zero.
 fn read_items(slot: &[u8], length: usize) -> Result<Vec<SifVal>, u8> {
     if !zero(&slot[8..16]) || !zero(&slot[16 + length..40]) || !zero(&slot[40 + 8 * length..232]) {
-        return Err(10);
+        return Err(STATE_REFUSED);
     }
     (0..length).map(|index| single(slot[16 + index], number_at(slot, 40 + 8 * index))).collect()
 }
@@ -236,7 +236,7 @@ fn read_table(slot: &[u8], length: usize) -> Result<SifVal, u8> {
     let (keys, above) = slot[232..248].split_at(length);
     let ascending = keys.windows(2).all(|pair| pair[0] < pair[1]);
     if !ascending || !zero(above) || keys.iter().any(|key| usize::from(*key) >= TEXTS) {
-        return Err(10);
+        return Err(STATE_REFUSED);
     }
     let values = read_items(slot, length)?;
     Ok(SifVal::Tab(keys.iter().map(|key| name_of(*key)).zip(values).collect()))
@@ -251,6 +251,6 @@ fn single(kind: u8, number: u64) -> Result<SifVal, u8> {
         2 if number < TEXTS as u64 => Ok(SifVal::Str(name_of(number as u8))),
         3 if number <= 1 => Ok(SifVal::Bl(number == 1)),
         4 if number == 0 => Ok(SifVal::Null),
-        _ => Err(10),
+        _ => Err(STATE_REFUSED),
     }
 }

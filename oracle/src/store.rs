@@ -25,9 +25,9 @@ const SEED: u64 = 2024;
 const KINDS: [(&str, usize, usize, usize, &str); 5] = [
     ("limits", 0, 0, 0, ""),
     ("damaged", 500, 158, 34_000, ""),
-    ("other", 5000, 1_000, 110_000, "Call"),
+    ("other", 5000, 1_000, 102_500, "Call"),
     ("values", 6, 3_000, 18_500, ""),
-    ("plain", 4000, 1_000, 72_000, "JmpCnd"),
+    ("plain", 4000, 1_000, 64_000, "JmpCnd"),
 ];
 
 /// Writes `cases.bin` and `programs.bin` into a folder; prints how many of each kind.

@@ -4,6 +4,7 @@ use std::collections::HashMap;
 
 use crate::names::{name_of, text_of};
 use crate::original::sifc_bytecode::sifv::SifVal;
+use crate::refuse::PROGRAM_REFUSED;
 
 pub const NAN: u64 = 0x7ff8_0000_0000_0000;
 
@@ -40,7 +41,7 @@ pub fn read_literal(text: &str) -> Option<Result<SifVal, u8>> {
     let Some(items) = inside(text, "Arr:[") else {
         return match inside(text, "Tab:[") {
             Some("") => Some(Ok(SifVal::Tab(HashMap::new()))),
-            Some(_) => Some(Err(8)),
+            Some(_) => Some(Err(PROGRAM_REFUSED)),
             None => read_single(text),
         };
     };
@@ -48,11 +49,11 @@ pub fn read_literal(text: &str) -> Option<Result<SifVal, u8>> {
         return Some(Ok(SifVal::Arr(Vec::new())));
     }
     if items.contains('[') {
-        return Some(Err(8));
+        return Some(Err(PROGRAM_REFUSED));
     }
     let values: Result<Vec<SifVal>, u8> =
         items.split(',').map(read_single).collect::<Option<Vec<_>>>()?.into_iter().collect();
-    Some(values.and_then(|v| if v.len() > 24 { Err(8) } else { Ok(SifVal::Arr(v)) }))
+    Some(values.and_then(|v| if v.len() > 24 { Err(PROGRAM_REFUSED) } else { Ok(SifVal::Arr(v)) }))
 }
 
 fn inside<'t>(text: &'t str, head: &str) -> Option<&'t str> {
@@ -66,7 +67,7 @@ fn read_single(text: &str) -> Option<Result<SifVal, u8>> {
     }
     if let Some(number) = text.strip_prefix("Str:") {
         let number: usize = number.parse().ok()?;
-        return Some(if number > 63 { Err(8) } else { Ok(SifVal::Str(name_of(number as u8))) });
+        return Some(if number > 63 { Err(PROGRAM_REFUSED) } else { Ok(SifVal::Str(name_of(number as u8))) });
     }
     match text {
         "Bl:0" => Some(Ok(SifVal::Bl(false))),

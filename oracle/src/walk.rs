@@ -74,6 +74,12 @@ impl Walk {
         format!("held {}\n{}", self.values.len(), names.collect::<String>())
     }
 
+    /// A name's value as text.
+    pub fn name_text(&self, name: u64) -> Option<String> {
+        let name = u8::try_from(name).ok()?;
+        self.values.get(&name).map(Value::text)
+    }
+
     /// One step; a stopping one is not counted.
     fn step<T>(&mut self, result: impl FnOnce(&mut Walk) -> Result<T, Stop>) -> Steps<T> {
         if self.count == self.budget {

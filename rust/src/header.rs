@@ -36,6 +36,8 @@ fn constants_of_header() -> BTreeMap<String, u64> {
 fn constants_of_crate() -> BTreeMap<String, u64> {
     let size = |size: usize| size as u64;
     let mut constants = vec![
+        ("VERSION", Program::VERSION),
+        ("STATE_NAMES", size(Machine::NAMES_AT)),
         ("PROGRAM_SIZE", size(Program::SIZE)),
         ("STATE_SIZE", size(Machine::SIZE)),
         ("REPORT_SIZE", size(Report::SIZE)),
@@ -153,7 +155,7 @@ fn refusals() {
 }
 
 /// The declarations that `ffi.rs` writes down in Rust: `const uint8_t *` is `*const u8` there,
-/// `size_t` is `usize`.
+/// `uint64_t` is `u64`.
 #[test]
 fn declarations() {
     let text = header().split_whitespace().collect::<Vec<_>>().join(" ");
@@ -178,7 +180,6 @@ fn in_rust(parameter: &str) -> String {
     let of_rust = match of_c.trim() {
         "const uint8_t" => "*const u8",
         "uint8_t" => "*mut u8",
-        "size_t" => "usize",
         "uint64_t" => "u64",
         other => panic!("{other}"),
     };

@@ -50,7 +50,7 @@ fn hold_to_engine(script: &Script, file: &[u8], label: &str) -> Option<u8> {
 #[test]
 fn stored_cases() {
     let cases = stored();
-    assert_eq!(cases.len(), 2982);
+    assert_eq!(cases.len(), 3030);
     let mut accepted = 0;
     for (number, case) in cases.iter().enumerate() {
         if matches!(case.refused(), Some(1..=5 | 39)) {

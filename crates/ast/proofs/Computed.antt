@@ -3,13 +3,13 @@
 -- documents'; oracle/ compares every row with the reader that stands before the original there.
 use Prim.Native.Nat.{ℕ, zero, suc}
 use mathlib.Core.Path.{_≡_, refl}
-use mathlib.Core.Bool.{true}
+use mathlib.Core.Bool.{true, false}
 use mathlib.Core.List.{List, [], _∷_}
 use lib.ListN.{replicate}
 use lib.Ieee.{ofBits}
 use Rattle.lent.specs.Bytes.{beBytes}
-use Rattle.ast.specs.Tree.{Lit, Val, Truth, Literal, Expression, Table, Array, Items, noItems, moreItems, OverName}
-use Rattle.ast.specs.Tree.{Stmt, Block, ForStmt, Return, VarInit, FnDecl, Stmts, noStmts, moreStmts}
+use Rattle.ast.specs.Tree.{Bang, Lit, Val, Truth, Expr, Literal, Name, UnaryExpr, VarAssign, Expression, Table, Array, noExprs, moreExprs, Items, noItems, moreItems, OverName, OverCall}
+use Rattle.ast.specs.Tree.{Stmt, Block, ForStmt, Return, ExprStmt, VarInit, FnDecl, Stmts, noStmts, moreStmts}
 use Rattle.ast.specs.File.{readTree, Read, Refused, Tree}
 
 -- ---- trees in short
@@ -26,10 +26,24 @@ abbrev deep : ℕ → Stmts
 deep zero = noStmts
 deep (suc n) = moreStmts (Block (deep n)) noStmts
 
+-- a statement in n Blocks
+abbrev blocks : ℕ → Stmt → Stmts
+blocks zero s = moreStmts s noStmts
+blocks (suc n) s = moreStmts (Block (blocks n s)) noStmts
+
+-- n loops around statements
+abbrev around : ℕ → Stmts → Stmts
+around zero t = t
+around (suc n) t = moreStmts (ForStmt 1 1 (OverName 1) (around n t)) noStmts
+
 -- n loops, each in the one before
 abbrev nested : ℕ → Stmts
-nested zero = noStmts
-nested (suc n) = moreStmts (ForStmt 1 1 (OverName 1) (nested n)) noStmts
+nested n = around n noStmts
+
+-- True behind n Bangs
+abbrev negated : ℕ → Expr
+negated zero = Literal (Truth true)
+negated (suc n) = UnaryExpr Bang (negated n)
 
 -- n items of True, their keys from k on
 abbrev keyed : ℕ → ℕ → Items
@@ -158,4 +172,27 @@ rows =
     row 39 0x000b02060101010901020103031500020004021500020109010200666f72746d70610101010101 (Refused 4) refl ∷
     -- two functions, one behind the other
     row 32 0x000802060101020903150015000200090102010600666f72746d706101010000 (Tree (script (FnDecl 1 (1 ∷ 0 ∷ []) noStmts ∷ FnDecl 0 [] (script (Return ∷ [])) ∷ []))) refl ∷
+    []
+
+-- ---- the structure's limits at places further down
+
+structures : List Row
+unfolding readTree ofBits
+structures =
+    -- a Table at depth 7: a key twice, and two keys
+    row 39 0x000b030601010101020102010201070110010a020b0116000b011700666f72746d706162010101 (Refused 4) refl ∷
+    row 39 0x000b030601010101020102010201070110010a020b0116000b011700666f72746d706162010102 (Tree (blocks 3 (ExprStmt (VarAssign 1 (Table (moreItems 1 (Literal (Truth true)) (moreItems 2 (Literal (Truth false)) noItems))))))) refl ∷
+    -- below an Item: depth 32, and 33
+    row 105 0x0020020601010108010a010b011201120112011201120112011201120112011201120112011201120112011201120112011201120112011201120112011201120112011600666f72746d70610101010101010101010101010101010101010101010101010101010101 (Tree (script (VarInit 1 (Table (moreItems 1 (negated 27) noItems)) ∷ []))) refl ∷
+    row 108 0x0021020601010108010a010b0112011201120112011201120112011201120112011201120112011201120112011201120112011201120112011201120112011201120112011600666f72746d7061010101010101010101010101010101010101010101010101010101010101 (Refused 4) refl ∷
+    -- a For over a Call: with no parameter, with two; a key twice in one of them, a Table as one
+    row 23 0x0004020601010105020f000200666f72746d7061010101 (Tree (script (ForStmt 1 1 (OverCall 1 noExprs) noStmts ∷ []))) refl ∷
+    row 28 0x0006020601010105020f02160015000200666f72746d706101010101 (Tree (script (ForStmt 1 1 (OverCall 1 (moreExprs (Literal (Truth true)) (moreExprs (Name 1) noExprs))) noStmts ∷ []))) refl ∷
+    row 40 0x000b020601010105020f02160010010a020b0116000b0117000200666f72746d7061010101010101 (Refused 4) refl ∷
+    row 27 0x0006020601010105020f0216000a000200666f72746d7061010101 (Refused 4) refl ∷
+    -- loops are counted on inside a function: 7 around it and 1 inside, 8 and 1; 8 inside, and 9
+    row 91 0x001b020601010105021500020105021500020105021500020105021500020105021500020105021500020105021500020109010201050215000200666f72746d706101010101010101010101010101010101010101010101010101 (Tree (around 7 (moreStmts (FnDecl 1 [] (nested 1)) noStmts))) refl ∷
+    row 100 0x001e020601010105021500020105021500020105021500020105021500020105021500020105021500020105021500020105021500020109010201050215000200666f72746d706101010101010101010101010101010101010101010101010101010101 (Refused 4) refl ∷
+    row 91 0x001b020601010109010201050215000201050215000201050215000201050215000201050215000201050215000201050215000201050215000200666f72746d706101010101010101010101010101010101010101010101010101 (Tree (script (FnDecl 1 [] (nested 8) ∷ []))) refl ∷
+    row 100 0x001e020601010109010201050215000201050215000201050215000201050215000201050215000201050215000201050215000201050215000201050215000200666f72746d706101010101010101010101010101010101010101010101010101010101 (Refused 4) refl ∷
     []

@@ -10,7 +10,7 @@ use Rattle.ast.specs.Tree.{Stmts}
 use Rattle.ast.specs.Node.{kindOf, Body, nothing, elifs, texts, operator, number64, body, bodySize, finiteNumber, Node, node}
 use Rattle.ast.specs.Structure.{Parsed, Fails, Takes, parse}
 use Rattle.lent.specs.Lists.{all, sum}
-use Rattle.lent.specs.Refusals.{fileCut, badCounts, badTexts, badStructure, badNumbers, notFinite}
+use Rattle.lent.specs.Refusals.{fileCut, fileCounts, fileTexts, fileStructure, fileNumbers, numberNotFinite}
 
 -- ---- the contents: node count, text count, a length per text, kind and child count per node
 
@@ -136,21 +136,21 @@ require false n r = Refused n
 -- behind them give
 abbrev pub checkNodes : ℕ → List Node → Read → Read
 checkNodes t [] r = r
-checkNodes t (n ∷ ns) r = require (nodeOk t n) badNumbers (require (nodeFinite n) notFinite (checkNodes t ns r))
+checkNodes t (n ∷ ns) r = require (nodeOk t n) fileNumbers (require (nodeFinite n) numberNotFinite (checkNodes t ns r))
 
 abbrev pub structured : Parsed Stmts → Read
-structured Fails = Refused badStructure
+structured Fails = Refused fileStructure
 structured (Takes t ns) = Tree t
 
 -- "1 (under 3 bytes); 2; 1 (contents); 4 (unknown kind); 3 (length); 1 (bodies); 3; 5; 4", 39 with 5
 unfoldable pub readTree : List ℕ → Read
 readTree f =
     require (leb 3 (length f)) fileCut
-    (require (countsOk f) badCounts
+    (require (countsOk f) fileCounts
     (require (leb (contentsSize f) (length f)) fileCut
-    (require (kindsOk f) badStructure
-    (require (lengthsOk f) badTexts
+    (require (kindsOk f) fileStructure
+    (require (lengthsOk f) fileTexts
     (require (eqb (contentsSize f + bodiesSize f) (length f)) fileCut
-    (require (textsOk f) badTexts
+    (require (textsOk f) fileTexts
     (checkNodes (textCount f) (nodes f)
     (structured (parse (nodes f))))))))))

@@ -68,7 +68,7 @@ pub fn node_bytes(entries: &[u8]) -> usize
     let mut i = 0;
     while i < entries.len() {
         total += size(entries[i]);
-        i += 2;
+        i += crate::NODE_SIZE;
     }
     total
 }
@@ -118,13 +118,13 @@ pub fn first_fault(texts: u64, entries: &[u8], bodies: &[u8]) -> u64
     while i < entries.len() {
         let kind = entries[i];
         if !field_ok(texts, kind, &bodies[at..]) {
-            return 5;
+            return lent::FILE_NUMBERS;
         }
         if !finite(kind, &bodies[at..]) {
-            return 39;
+            return lent::NUMBER_NOT_FINITE;
         }
         at += size(kind);
-        i += 2;
+        i += crate::NODE_SIZE;
     }
     0
 }

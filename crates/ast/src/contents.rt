@@ -6,6 +6,8 @@ ghost use lib.ListN.{length};
 ghost use Rattle.ast.specs.File.{nodeCount, textCount, countsOk, between, firsts};
 ghost use Rattle.lent.specs.Lists.{all};
 
+const TEXTS: u64 = lent::TEXTS as u64;
+
 pub fn node_count(file: &[u8]) -> u64
     requires { ⌜ 3 ≤ length (now file) ⌝ }
     ensures { λ r. ⌜ (r ≡ nodeCount (now (file .entry))) × (r < 65536) ⌝ }
@@ -17,7 +19,7 @@ pub fn text_count(file: &[u8]) -> u64
     requires { ⌜ 3 ≤ length (now file) ⌝ }
     ensures { λ r. ⌜ (r ≡ textCount (now (file .entry))) × (r < 256) ⌝ }
 {
-    lent::wide(file[2])
+    lent::wide(file[crate::FILE_TEXT_COUNT])
 }
 
 pub fn within(least: u64, most: u64, n: u64) -> bool
@@ -31,7 +33,7 @@ pub fn counts_ok(file: &[u8]) -> bool
     requires { ⌜ 3 ≤ length (now file) ⌝ }
     ensures { λ r. ⌜ r ≡ countsOk (now (file .entry)) ⌝ }
 {
-    within(1, 1024, node_count(file)) & within(1, 64, text_count(file))
+    within(1, crate::NODES, node_count(file)) & within(1, TEXTS, text_count(file))
 }
 
 // 4: an unknown kind.
@@ -43,7 +45,7 @@ pub fn kinds_ok(entries: &[u8]) -> bool
     let mut i = 0;
     while i < entries.len() {
         ok = ok & within(1, 23, lent::wide(entries[i]));
-        i += 2;
+        i += crate::NODE_SIZE;
     }
     ok
 }
@@ -55,7 +57,7 @@ pub fn lengths_ok(lengths: &[u8]) -> bool
     let mut ok = true;
     let mut i = 0;
     while i < lengths.len() {
-        ok = ok & (lengths[i] <= 40);
+        ok = ok & (lengths[i] <= crate::TEXT_BYTES);
         i += 1;
     }
     ok

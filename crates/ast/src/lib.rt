@@ -14,6 +14,23 @@ ghost use Rattle.ast.specs.inner.Room.{Room};
 ghost use Rattle.ast.specs.inner.Answer.{answerOf, partsAnswer, bodiesAnswer};
 ghost use Rattle.lent.specs.Lists.{sum};
 
+// The contents of a tree file: specs/File.antt. The node count is at byte 0; an entry of a node is its kind and its
+// child count.
+pub const FILE_TEXT_COUNT: usize = 2;
+
+pub const FILE_LENGTHS: usize = 3;
+
+pub const NODE_SIZE: usize = 2;
+
+// Limits of a tree file: nodes, bytes of a text, depth, loops nested.
+pub const NODES: u64 = 1024;
+
+pub const TEXT_BYTES: u8 = 40;
+
+pub const DEPTH: u64 = 32;
+
+pub const LOOPS: u64 = 8;
+
 // The checks of the bodies: texts (3), the nodes' own (5 and 39), structure (4). total is the size of the texts.
 fn read_bodies(count: u64, lengths: &[u8], entries: &[u8], total: usize, bodies: &[u8]) -> u64
     requires { ⌜ (count ≤ 64) × (1 ≤ length (now lengths)) × (length (now lengths) ≤ 64) × (length (now entries) ≤ 2048) ⌝ }
@@ -21,14 +38,14 @@ fn read_bodies(count: u64, lengths: &[u8], entries: &[u8], total: usize, bodies:
     ensures { λ r. ⌜ r ≡ bodiesAnswer count (now (lengths .entry)) (now (entries .entry)) (now (bodies .entry)) ⌝ }
 {
     if !texts::texts_ok(lengths, total, bodies) {
-        return 3;
+        return lent::FILE_TEXTS;
     }
     let fault = bodies::first_fault(count, entries, &bodies[total..]);
     if fault != 0 {
         return fault;
     }
     if !structure::structure_ok(entries, &bodies[total..]) {
-        return 4;
+        return lent::FILE_STRUCTURE;
     }
     0
 }
@@ -39,15 +56,15 @@ fn read_parts(count: u64, lengths: &[u8], entries: &[u8], nodes: u64, bodies: &[
     ensures { λ r. ⌜ r ≡ partsAnswer count (now (lengths .entry)) (now (entries .entry)) (now (bodies .entry)) ⌝ }
 {
     if !contents::kinds_ok(entries) {
-        return 4;
+        return lent::FILE_STRUCTURE;
     }
     if !contents::lengths_ok(lengths) {
-        return 3;
+        return lent::FILE_TEXTS;
     }
     let total = bodies::text_bytes(lengths);
     let size = total + bodies::node_bytes(entries);
     if size != bodies.len() {
-        return 1;
+        return lent::FILE_CUT;
     }
     read_bodies(count, lengths, entries, total, bodies)
 }
@@ -56,22 +73,22 @@ fn read_parts(count: u64, lengths: &[u8], entries: &[u8], nodes: u64, bodies: &[
 pub fn read(file: &[u8]) -> u64
     ensures { λ r. ⌜ r ≡ answerOf (readTree (now (file .entry))) ⌝ }
 {
-    if file.len() < 3 {
-        return 1;
+    if file.len() < FILE_LENGTHS {
+        return lent::FILE_CUT;
     }
     if !contents::counts_ok(file) {
-        return 2;
+        return lent::FILE_COUNTS;
     }
     let count = contents::text_count(file);
     let nodes = contents::node_count(file);
-    let first = 3 + count as usize;
-    let size = first + 2 * (nodes as usize);
+    let first = FILE_LENGTHS + count as usize;
+    let size = first + NODE_SIZE * (nodes as usize);
     if file.len() < size {
-        return 1;
+        return lent::FILE_CUT;
     }
     read_parts(
         count,
-        &file[3..first],
+        &file[FILE_LENGTHS..first],
         &file[first..size],
         nodes,
         &file[size..],

@@ -69,7 +69,7 @@ fn scan(entries: &[u8]) -> bool
         ok = ok & allowed(above, kind);
         left = waits(left, kind, count);
         above = under(left, kind);
-        i += 2;
+        i += crate::NODE_SIZE;
     }
     ok
 }
@@ -81,7 +81,7 @@ pub fn plain(file: &[u8]) -> bool
     if crate::read(file) != 0 {
         return false;
     }
-    let first = 3 + crate::contents::text_count(file) as usize;
-    let size = first + 2 * (crate::contents::node_count(file) as usize);
+    let first = crate::FILE_LENGTHS + crate::contents::text_count(file) as usize;
+    let size = first + crate::NODE_SIZE * (crate::contents::node_count(file) as usize);
     scan(&file[first..size])
 }

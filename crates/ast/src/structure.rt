@@ -30,6 +30,10 @@ pub struct Plan {
     pub inside: bool,
 }
 
+const ARRAY_ITEMS: u64 = lent::ARRAY_ITEMS as u64;
+
+const TABLE_ITEMS: u64 = lent::TABLE_ITEMS as u64;
+
 // Places: bit k for each kind k that may stand there.
 const PROGRAM: u64 = 0x2;
 
@@ -149,11 +153,11 @@ fn plan_of(kind: u8, count: u64, elifs: u64, loops: u64, inside: bool) -> Plan
         // FnDecl: none inside another
         9 => then_block((1 <= count) & !inside, NAME, minus(count, 1), loops, true),
         // Table: at most 16 Items
-        10 => only_first(count <= 16, ITEM, count, loops, inside),
+        10 => only_first(count <= TABLE_ITEMS, ITEM, count, loops, inside),
         // Item
         11 => only_first(count == 1, EXPRESSION, 1, loops, inside),
         // Array: at most 24 items
-        12 => only_first(count <= 24, LITERAL, count, loops, inside),
+        12 => only_first(count <= ARRAY_ITEMS, LITERAL, count, loops, inside),
         // ArrayAccess
         13 => only_first(count == 1, EXPRESSION, 1, loops, inside),
         // ArrayMut
@@ -194,7 +198,7 @@ fn begin(fits: bool, size: usize) -> Checked
     ensures { λ r. ⌜ r ≡ began fits size ⌝ }
 {
     if fits {
-        return Checked::Taken(2, size);
+        return Checked::Taken(crate::NODE_SIZE, size);
     }
     Checked::Bad
 }
@@ -395,7 +399,8 @@ pub fn structure_ok(entries: &[u8], bodies: &[u8]) -> bool
     requires { ⌜ Fit (now entries) (now bodies) ⌝ }
     ensures { λ r. ⌜ r ≡ parsed (parse (nodesFrom (now (entries .entry)) (now (bodies .entry)))) ⌝ }
 {
-    let Checked::Taken(u, _) = node(PROGRAM, entries, bodies, 32, 8, false) else {
+    let Checked::Taken(u, _) = node(PROGRAM, entries, bodies, crate::DEPTH, crate::LOOPS, false)
+    else {
         return false;
     };
     u == entries.len()

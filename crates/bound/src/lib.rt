@@ -49,7 +49,7 @@ fn longest(entries: &[u8]) -> u64
         let kind = lent::wide(entries[i]);
         let count = lent::wide(entries[i + 1]);
         most = larger(most, items(kind, count));
-        i += 2;
+        i += ast::NODE_SIZE;
     }
     most
 }
@@ -135,12 +135,12 @@ fn subtree(depth: u64, l: u64, under: u64, entries: &[u8], at: usize) -> Part
     if depth == 0 {
         return Part { next: at, cost: 0 };
     }
-    if entries.len() < at + 2 {
+    if entries.len() < at + ast::NODE_SIZE {
         return Part { next: at, cost: 0 };
     }
     let kind = lent::wide(entries[at]);
     let count = lent::wide(entries[at + 1]);
-    let p = children(depth - 1, l, kind, count, entries, at + 2);
+    let p = children(depth - 1, l, kind, count, entries, at + ast::NODE_SIZE);
     Part {
         next: p.next,
         cost: whole(l, under, kind, count, p.cost),
@@ -170,7 +170,7 @@ fn of_entries(entries: &[u8]) -> u64
     ensures { λ r. ⌜ r ≡ Rule.ofEntries (now (entries .entry)) % limit ⌝ }
 {
     let l = larger(1, longest(entries));
-    let p = subtree(32, l, 0, entries, 0);
+    let p = subtree(ast::DEPTH, l, 0, entries, 0);
     p.cost
 }
 
@@ -181,7 +181,7 @@ pub fn bound(file: &[u8]) -> u64
     if !ast::plain::plain(file) {
         return 0;
     }
-    let first = 3 + file[2] as usize;
-    let size = first + 2 * (lent::get_u16(file, 0) as usize);
+    let first = ast::FILE_LENGTHS + file[ast::FILE_TEXT_COUNT] as usize;
+    let size = first + ast::NODE_SIZE * (lent::get_u16(file, 0) as usize);
     of_entries(&file[first..size])
 }

@@ -1,7 +1,7 @@
 -- The calls start, run and read_name on bytes, computed: every 9, with the buffer one byte short and the others as they may be; 8 and 10, their order, and that
 -- nothing is written then; accepted calls in buffers exactly long enough and longer. The numbers are document 01's ("Numbers given for the input", "Numbers
 -- given for the state", "Running"), the bytes docs/FORMATS.md's; oracle/ answers every row by the original. Each way in which a program is refused has its
--- row in crates opc and tables, each field of a state in crate vm, each report in crate report, lower in crate lower: Rows.antt of each.
+-- row in crates opc and tables, each field of a state in crate vm, each report in Reports.antt there, lower in Lowered.antt here.
 use Prim.Native.Nat.{ℕ}
 use mathlib.Core.Path.{_≡_, refl}
 use mathlib.Core.Bool.{Bool, true, _&&_}
@@ -13,8 +13,11 @@ use Rattle.lent.specs.Bytes.{beBytes, sameBytes, concat}
 use Rattle.sifv.specs.Slot.{encodeSlot, decodeSlot}
 use Rattle.tables.specs.ProgramBytes.{decodeProgram}
 use Rattle.vm.specs.StateBytes.{encodeState, decodeState, stateOk}
-use Rattle.lower.specs.LowerCall.{Answered}
-use Rattle.boundary.specs.Calls.{startCall, RunAnswered, runCall, readCall}
+use Rattle.lent.specs.Answered.{Answered}
+use Rattle.boundary.specs.StartCall.{startCall}
+use Rattle.lent.specs.Answered.{RunAnswered}
+use Rattle.boundary.specs.RunCall.{runCall}
+use Rattle.boundary.specs.ReadCall.{readCall}
 use Rattle.lent.specs.Lists.{zeros}
 
 -- ---- rows: a call's buffers and numbers, the number that it answers, and what its buffers hold afterwards; a buffer is written as its runs of bytes

@@ -1,14 +1,13 @@
 -- What the calls answer, test by test.
 use mathlib.Core.Path.{_≡_, refl, sym, ap, ap₂, _∙_, subst}
-use mathlib.Core.Bool.{Bool, true, false, cond, _&&_}
+use mathlib.Core.Bool.{Bool, true, false}
 use mathlib.Core.List.{List, [], _++_, append-nil}
 use mathlib.Core.Option.{Option, none, some}
 use Prim.Native.Nat.{ℕ, _+_, _*_, _-_, _^_, _≤_, _<_}
 use native.Mathlib.Omega.{arith}
-use lib.Dec.{ltb}
 use lib.ListN.{length, drop, length-append, length-drop}
 use lib.Seq.{drop-length}
-use borrow.Author.Tests.{lt-ltb, le-ltb}
+use borrow.Author.Tests.{lt-ltb, le-ltb, le-leb, lt-leb}
 use Rattle.lent.specs.Bytes.{beValue, part, splice, AreBytes}
 use Rattle.lent.specs.laws.Parts.{part-part, length-part}
 use Rattle.lent.specs.laws.Slots.{slot-end}
@@ -16,7 +15,7 @@ use Rattle.sifv.specs.Slot.{encodeSlot}
 use Rattle.tables.specs.Tables.{Program}
 use Rattle.tables.specs.ProgramBytes.{decodeProgram}
 use Rattle.vm.specs.Machine.{Machine, State, started, run}
-use Rattle.vm.specs.laws.Kept.{accepted-storable, storable-sound}
+use Rattle.vm_laws.specs.laws.Kept.{accepted-storable, storable-sound}
 use Rattle.vm.specs.StateBytes.{encodeState, decodeState, stateOk}
 use Rattle.execute.specs.inner.View.{view, locOf, Cells, Holds, Canon}
 use Rattle.execute.specs.laws.Laying.{laid-view, laid-canon, length-stack, length-frames}
@@ -25,18 +24,21 @@ use Rattle.tables.specs.laws.ProgramLaws.{limits}
 use Rattle.tables.specs.laws.ProgramRange.{program-within}
 use Rattle.state.specs.laws.Whole.{accepted-holds, accepted-loc}
 use Rattle.state.specs.inner.Fields.{locAt, progressAt}
-use Rattle.run.specs.inner.Runs.{stateOf, RunEnded}
-use Rattle.run.specs.declared.Progress.{Progress}
+use Rattle.execute.specs.inner.Progress.{stateOf}
+use Rattle.run.specs.inner.Runs.{RunEnded}
+use Rattle.execute.specs.declared.Progress.{Progress}
 use Rattle.run.specs.declared.Ran.{Ran as GivenRan}
-use Rattle.lower.specs.LowerCall.{over, answered}
-use Rattle.report.specs.Report.{report}
+use Rattle.lent.specs.Answered.{over, answered}
+use Rattle.vm.specs.Report.{report}
 use Rattle.report.specs.inner.Fields.{reportOf}
 use Rattle.report.specs.laws.Told.{told-report}
-use Rattle.boundary.specs.Calls.{startOn, startCall, ranOut, runRefused, runOn, runCall, readCall}
-use Rattle.program.specs.laws.HeldLaws.{missing}
-use Rattle.calls.specs.inner.Finished.{Finished}
-use Rattle.execute.specs.inner.ProgramView.{programIn, ProgramReady}
-use Rattle.program.specs.inner.Held.{isSome}
+use Rattle.boundary.specs.StartCall.{startCall}
+use Rattle.boundary.specs.RunCall.{ranOut, runRefused, runCall}
+use Rattle.boundary.specs.ReadCall.{readCall}
+use Rattle.calls.specs.inner.Finished.{Finished, runOn}
+use Rattle.tables.specs.ProgramBytes.{programIn}
+use Rattle.execute.specs.inner.ProgramView.{ProgramReady}
+use Rattle.lent.specs.Lists.{isSome}
 
 -- ---- buffers and programs
 
@@ -60,115 +62,105 @@ program-ready q a l h = ready q (programIn q) a l (programmed q h)
 pub start-small : (q : List ℕ) → AreBytes q → isSome (decodeProgram q) ≡ true → programIn q .codeStart ≤ 1024
 start-small q a h = let k = limits (programIn q) (program-within q (programIn q) a (programmed q h) .0) in omega (arith, k .start, k .count)
 
-unprogrammed : (q : List ℕ) → isSome (decodeProgram q) ≡ false → decodeProgram q ≡ none
-unprogrammed q h = missing (decodeProgram q) h
-
 -- ---- start
 
 module _ (q b : List ℕ) where
   pub start-short-program : length q < 40960 → startCall q b ≡ answered 9 b
   unfolding startCall
-  start-short-program h = rw (lt-ltb (length q) 40960 h)
+  start-short-program h = rw (lt-leb 40960 (length q) h)
 
   module _ (hq : 40960 ≤ length q) where
     pub start-short-state : length b < 65536 → startCall q b ≡ answered 9 b
     unfolding startCall
-    start-short-state h = rw (le-ltb (length q) 40960 hq, lt-ltb (length b) 65536 h)
+    start-short-state h = rw (le-leb 40960 (length q) hq, lt-leb 65536 (length b) h)
 
     module _ (hb : 65536 ≤ length b) where
-      start-on : startCall q b ≡ startOn (decodeProgram q) b
-      unfolding startCall
-      start-on = rw (le-ltb (length q) 40960 hq, le-ltb (length b) 65536 hb)
-
       pub start-refused : isSome (decodeProgram q) ≡ false → startCall q b ≡ answered 8 b
-      start-refused h = start-on ∙ ap (λ (o : Option Program). startOn o b) (unprogrammed q h)
+      unfolding startCall
+      start-refused h = rw (le-leb 40960 (length q) hq, le-leb 65536 (length b) hb, h)
 
       pub start-written : {b' : List ℕ} → isSome (decodeProgram q) ≡ true → b' ≡ encodeState (started (programIn q)) ++ drop 47360 b → length b' ≡ length b → startCall q b ≡ answered 0 b'
+      unfolding startCall
       start-written {b'} h e l =
-          start-on ∙ ap (λ (o : Option Program). startOn o b) (programmed q h)
-          ∙ ap (λ (x : List ℕ). answered 0 x) (sym (over-is (encodeState (started (programIn q))) b b' 47360 e (omega arith) l))
+          rw (le-leb 40960 (length q) hq, le-leb 65536 (length b) hb, h)
+          (ap (λ (x : List ℕ). answered 0 x) (sym (over-is (encodeState (started (programIn q))) b b' 47360 e (omega arith) l)))
 
 -- ---- read_name
 
 module _ (b : List ℕ) (x : ℕ) (out : List ℕ) where
   pub read-short-state : length b < 65536 → readCall b x out ≡ answered 9 out
   unfolding readCall
-  read-short-state h = rw (lt-ltb (length b) 65536 h)
+  read-short-state h = rw (lt-leb 65536 (length b) h)
 
   module _ (hb : 65536 ≤ length b) where
     pub read-short-out : length out < 256 → readCall b x out ≡ answered 9 out
     unfolding readCall
-    read-short-out h = rw (le-ltb (length b) 65536 hb, lt-ltb (length out) 256 h)
+    read-short-out h = rw (le-leb 65536 (length b) hb, lt-leb 256 (length out) h)
 
     module _ (ho : 256 ≤ length out) where
       pub read-no-text : 63 < x → readCall b x out ≡ answered 8 out
       unfolding readCall
-      read-no-text h = rw (le-ltb (length b) 65536 hb, le-ltb (length out) 256 ho, lt-ltb 63 x h)
+      read-no-text h = rw (le-leb 65536 (length b) hb, le-leb 256 (length out) ho, lt-leb x 63 h)
 
       module _ (hx : x ≤ 63) where
-        read-on : readCall b x out ≡ cond (stateOk 1024 b) (answered 0 (over (encodeSlot (decodeState b .machine .names x)) out)) (answered 10 out)
-        unfolding readCall
-        read-on = rw (le-ltb (length b) 65536 hb, le-ltb (length out) 256 ho, le-ltb 63 x hx)
-
         pub read-refused : {t : Bool} → t ≡ stateOk 1024 b → t ≡ false → readCall b x out ≡ answered 10 out
-        read-refused e f = read-on ∙ ap (λ (t : Bool). cond t (answered 0 (over (encodeSlot (decodeState b .machine .names x)) out)) (answered 10 out)) (sym e ∙ f)
+        unfolding readCall
+        read-refused e f = rw (le-leb 65536 (length b) hb, le-leb 256 (length out) ho, le-leb x 63 hx, sym e ∙ f)
 
         pub read-written : {t : Bool} {out' : List ℕ} → AreBytes b → t ≡ stateOk 1024 b → t ≡ true → out' ≡ splice out 0 (part b (24576 + x * 256) 256) → length out' ≡ length out → readCall b x out ≡ answered 0 out'
+        unfolding readCall
         read-written {t} {out'} a e f w l =
             let ok : stateOk 1024 b ≡ true = sym e ∙ f in
             let s : part b (24576 + x * 256) 256 ≡ encodeSlot (decodeState b .machine .names x) = accepted-holds 1024 b (omega arith) a (omega arith) ok .in-names x (omega arith) in
             let n : length (part b (24576 + x * 256) 256) ≡ 256 = length-part b (24576 + x * 256) 256 (omega arith) in
-            read-on ∙ ap (λ (t : Bool). cond t (answered 0 (over (encodeSlot (decodeState b .machine .names x)) out)) (answered 10 out)) ok
-            ∙ ap (λ (y : List ℕ). answered 0 y) (sym (w ∙ ap (λ (y : List ℕ). over y out) s))
+            rw (le-leb 65536 (length b) hb, le-leb 256 (length out) ho, le-leb x 63 hx, ok)
+            (ap (λ (y : List ℕ). answered 0 y) (sym (w ∙ ap (λ (y : List ℕ). over y out) s)))
 
 -- ---- run
 
 module _ (q b : List ℕ) (steps : ℕ) (out : List ℕ) where
   pub run-short-program : length q < 40960 → runCall q b steps out ≡ runRefused 9 b out
   unfolding runCall
-  run-short-program h = rw (lt-ltb (length q) 40960 h)
+  run-short-program h = rw (lt-leb 40960 (length q) h)
 
   module _ (hq : 40960 ≤ length q) where
     pub run-short-state : length b < 65536 → runCall q b steps out ≡ runRefused 9 b out
     unfolding runCall
-    run-short-state h = rw (le-ltb (length q) 40960 hq, lt-ltb (length b) 65536 h)
+    run-short-state h = rw (le-leb 40960 (length q) hq, lt-leb 65536 (length b) h)
 
     module _ (hb : 65536 ≤ length b) where
       pub run-short-report : length out < 48 → runCall q b steps out ≡ runRefused 9 b out
       unfolding runCall
-      run-short-report h = rw (le-ltb (length q) 40960 hq, le-ltb (length b) 65536 hb, lt-ltb (length out) 48 h)
+      run-short-report h = rw (le-leb 40960 (length q) hq, le-leb 65536 (length b) hb, lt-leb 48 (length out) h)
 
       module _ (ho : 48 ≤ length out) where
-        pub run-passed : runCall q b steps out ≡ runOn (decodeProgram q) b steps out
-        unfolding runCall
-        run-passed = rw (le-ltb (length q) 40960 hq, le-ltb (length b) 65536 hb, le-ltb (length out) 48 ho)
-
         pub run-unprogrammed : isSome (decodeProgram q) ≡ false → runCall q b steps out ≡ runRefused 8 b out
-        run-unprogrammed h = run-passed ∙ ap (λ (o : Option Program). runOn o b steps out) (unprogrammed q h)
+        unfolding runCall
+        run-unprogrammed h = rw (le-leb 40960 (length q) hq, le-leb 65536 (length b) hb, le-leb 48 (length out) ho, h)
+
+        pub run-passed : isSome (decodeProgram q) ≡ true → runCall q b steps out ≡ runOn q b steps out
+        unfolding runCall
+        run-passed h = rw (le-leb 40960 (length q) hq, le-leb 65536 (length b) hb, le-leb 48 (length out) ho, h)
 
 -- the state check and the count
-module _ (q b : List ℕ) (steps : ℕ) (out : List ℕ) (h : isSome (decodeProgram q) ≡ true) {n : ℕ} (en : n ≡ length (programIn q .code)) where
-  tested : {t : Bool} → (stateOk n b && ltb (decodeState b .count + steps) (2 ^ 64)) ≡ t
-      → runOn (decodeProgram q) b steps out ≡ cond t (ranOut (programIn q) (run (programIn q) steps (decodeState b)) (decodeState b .count) b out) (runRefused 10 b out)
-  tested {t} e =
-      ap (λ (o : Option Program). runOn o b steps out) (programmed q h)
-      ∙ ap (λ (x : Bool). cond x (ranOut (programIn q) (run (programIn q) steps (decodeState b)) (decodeState b .count) b out) (runRefused 10 b out))
-      (ap (λ (k : ℕ). stateOk k b && ltb (decodeState b .count + steps) (2 ^ 64)) (sym en) ∙ e)
+module _ (q b : List ℕ) (steps : ℕ) (out : List ℕ) {n : ℕ} (en : n ≡ length (programIn q .code)) where
+  stated : {t : Bool} → t ≡ stateOk n b → stateOk (length (programIn q .code)) b ≡ t
+  stated e = ap (λ (k : ℕ). stateOk k b) (sym en) ∙ sym e
 
-  pub run-refused : {t : Bool} → t ≡ stateOk n b → t ≡ false → runOn (decodeProgram q) b steps out ≡ runRefused 10 b out
-  run-refused e f = tested (ap (λ (x : Bool). x && ltb (decodeState b .count + steps) (2 ^ 64)) (sym e ∙ f))
+  pub run-refused : {t : Bool} → t ≡ stateOk n b → t ≡ false → runOn q b steps out ≡ runRefused 10 b out
+  run-refused e f = rw (stated e ∙ f)
 
-  pub run-overflows : {t : Bool} → t ≡ stateOk n b → t ≡ true → 2 ^ 64 ≤ decodeState b .count + steps → runOn (decodeProgram q) b steps out ≡ runRefused 10 b out
-  run-overflows e f k = tested (ap (λ (x : Bool). x && ltb (decodeState b .count + steps) (2 ^ 64)) (sym e ∙ f) ∙ le-ltb (decodeState b .count + steps) (2 ^ 64) k)
+  pub run-overflows : {t : Bool} → t ≡ stateOk n b → t ≡ true → 2 ^ 64 ≤ decodeState b .count + steps → runOn q b steps out ≡ runRefused 10 b out
+  run-overflows e f k = rw (stated e ∙ f, le-ltb (decodeState b .count + steps) (2 ^ 64) k)
 
   pub run-accepted : {t : Bool} → t ≡ stateOk n b → t ≡ true → decodeState b .count + steps < 2 ^ 64
-      → runOn (decodeProgram q) b steps out ≡ ranOut (programIn q) (run (programIn q) steps (decodeState b)) (decodeState b .count) b out
-  run-accepted e f k = tested (ap (λ (x : Bool). x && ltb (decodeState b .count + steps) (2 ^ 64)) (sym e ∙ f) ∙ lt-ltb (decodeState b .count + steps) (2 ^ 64) k)
+      → runOn q b steps out ≡ ranOut (programIn q) (run (programIn q) steps (decodeState b)) (decodeState b .count) b out
+  run-accepted e f k = rw (stated e ∙ f, lt-ltb (decodeState b .count + steps) (2 ^ 64) k)
 
 -- the used bytes of an accepted state hold its machine
 module _ (n : ℕ) (b : List ℕ) (o : n ≤ 1024) (a : AreBytes b) (l : 47360 ≤ length b) (e : stateOk n b ≡ true) where
-  cells-used : (stateOf w k : ℕ) (f : ℕ → List ℕ) → stateOf + k * w ≤ 47360 → Cells b stateOf w k f → Cells (part b 0 47360) stateOf w k f
-  cells-used stateOf w k f h c i j = let z = slot-end w k i j in let y : 0 + (stateOf + i * w) ≡ stateOf + i * w = omega arith in part-part b 0 47360 (stateOf + i * w) w (omega arith) ∙ ap (λ (x : ℕ). part b x w) y ∙ c i j
+  cells-used : (at w k : ℕ) (f : ℕ → List ℕ) → at + k * w ≤ 47360 → Cells b at w k f → Cells (part b 0 47360) at w k f
+  cells-used at w k f h c i j = let z = slot-end w k i j in let y : 0 + (at + i * w) ≡ at + i * w = omega arith in part-part b 0 47360 (at + i * w) w (omega arith) ∙ ap (λ (x : ℕ). part b x w) y ∙ c i j
 
   used-holds : Holds (part b 0 47360) (decodeState b .machine)
   used-holds =
@@ -228,13 +220,13 @@ finished p steps b first {b₁} {b'} {r} e l w =
     }
 
 -- the state and the report behind an accepted run
-pub run-written : (q b : List ℕ) (steps : ℕ) (out : List ℕ) → isSome (decodeProgram q) ≡ true → {n : ℕ} → n ≡ length (programIn q .code) → n ≤ 1024 → AreBytes b → 65536 ≤ length b → {t : Bool} → t ≡ stateOk n b → t ≡ true
+pub run-written : (q b : List ℕ) (steps : ℕ) (out : List ℕ) {n : ℕ} → n ≡ length (programIn q .code) → n ≤ 1024 → AreBytes b → 65536 ≤ length b → {t : Bool} → t ≡ stateOk n b → t ≡ true
     → {first : Progress} → first ≡ progressAt b → steps ≤ 18446744073709551615 - first .count
     → {b₁ b' out' : List ℕ} {r : GivenRan} → Finished (run (programIn q) steps (stateOf (part b 0 47360) first)) first b₁ r → length b₁ ≡ 47360 → b' ≡ splice b 0 b₁
     → {start : ℕ} → programIn q .codeStart ≡ start
     → out' ≡ reportOf start (r .answer) (r .progress .loc .pos) (r .progress .count - first .count) ++ drop 48 out → length out' ≡ length out → 48 ≤ length out
-    → runOn (decodeProgram q) b steps out ≡ record { result = 0; state = b'; report = out' }
-run-written q b steps out h {n} en o a lb {t} et ft {first} ef hc {b₁} {b'} {out'} {r} f l₁ eb {start} es rep lo ho =
+    → runOn q b steps out ≡ record { result = 0; state = b'; report = out' }
+run-written q b steps out {n} en o a lb {t} et ft {first} ef hc {b₁} {b'} {out'} {r} f l₁ eb {start} es rep lo ho =
     let ok : stateOk n b ≡ true = sym et ∙ ft in
     let fits = accepted-storable n b o a (omega arith) ok .counted in
     let p = programIn q in
@@ -244,6 +236,6 @@ run-written q b steps out h {n} en o a lb {t} et ft {first} ef hc {b₁} {b'} {o
     let k = r .progress .count - first .count in
     let took : x .state .count - decodeState b .count ≡ k = ap₂ (λ (u v : ℕ). u - v) (g .counted) (counted-so b ef) in
     let w = over-is (report p (x .answer) (x .state) k) out out' 48 (rep ∙ ap (λ (y : List ℕ). y ++ drop 48 out) (told-report p (x .state) k (g .answers) es (g .position))) ho lo in
-    run-accepted q b steps out h en et ft (omega (arith, counted-so b ef))
+    run-accepted q b steps out en et ft (omega (arith, counted-so b ef))
     ∙ ap₂ (λ (u v : List ℕ). record { result = 0; state = u; report = v }) (sym s')
     (ap (λ (j : ℕ). over (report p (x .answer) (x .state) j) out) took ∙ sym w)

@@ -16,7 +16,7 @@ use Rattle.ast.specs.Flat.{exprCount}
 use Rattle.compiler.specs.Literals.{literal, binKind, unKind}
 use Rattle.ast.specs.Tree.{Stmt, Block, IfStmt, ForStmt, Return, ReturnExpr, ExprStmt, VarDecl, VarInit, FnDecl, Stmts, noStmts, moreStmts, Rest, Else, Elif}
 use Rattle.numeric.specs.Whole.{whole}
-use Rattle.lent.specs.Refusals.{noRegister, tooLarge}
+use Rattle.lent.specs.Refusals.{noRegister, scriptTooLarge}
 
 -- ---- what the lowering does
 
@@ -319,8 +319,8 @@ lowerTree t = orNop t top 0 (lowerStmts t top 0 0)
 -- the first refusal, from r registers taken and k instructions pushed: "6 or 7, the earlier in emission"
 abbrev pub refusal : List Event → ℕ → ℕ → ℕ
 refusal [] r k = 0
-refusal (Reg ∷ es) r k = cond (leb 96 r) tooLarge (refusal es (suc r) k)
-refusal (Push w i ∷ es) r k = cond (leb 1024 k) tooLarge (refusal es r (suc k))
+refusal (Reg ∷ es) r k = cond (leb 96 r) scriptTooLarge (refusal es (suc r) k)
+refusal (Push w i ∷ es) r k = cond (leb 1024 k) scriptTooLarge (refusal es r (suc k))
 refusal (Below ∷ es) r k = noRegister
 
 -- the instructions of a section, in the order of pushing

@@ -17,14 +17,15 @@ ghost use Rattle.emit.specs.inner.Run.{kept, afterEvents, stepEvent, ref
 ghost use Rattle.emit.specs.inner.Made.{Made, binCode};
 
 // What events change: the next register, the instructions pushed, the records and the items written, the refusal;
-// and whether this is the pass for the declarations. The two that are one byte stand together: each call copies it.
+// and whether this is the pass for the declarations. 16 bytes with none between the fields: each call copies it, and every
+// level of the tree holds some on the stack.
 pub struct Low {
     pub reg: u8,
     pub decls: bool,
-    pub count: u64,
-    pub recs: usize,
-    pub items: usize,
-    pub refused: u64,
+    pub refused: u16,
+    pub count: u32,
+    pub recs: u32,
+    pub items: u32,
 }
 
 // The bytes of the entries and of the bodies that are read, the label and the state behind them.
@@ -69,7 +70,7 @@ pub fn with(p: Done, low: Low) -> Done
     start(p.cont, p.body, p.lbl, low)
 }
 
-pub fn refused(low: Low, n: u64) -> Low
+pub fn refused(low: Low, n: u16) -> Low
     ensures { λ r. ⌜ r ≡ refuse n low ⌝ }
 {
     Low {
@@ -126,7 +127,7 @@ pub fn is_full(keep: bool, low: Low, n: usize) -> bool
     requires { ⌜ (low .items ≤ 1024) × (n ≤ 1024) ⌝ }
     ensures { λ r. ⌜ r ≡ noRoom keep low n ⌝ }
 {
-    (1024 <= low.count) | (keep & ((1024 <= low.recs) | (1024 < low.items + n)))
+    (1024 <= low.count) | (keep & ((1024 <= low.recs) | (1024 < low.items as usize + n)))
 }
 
 // An instruction is pushed, with n items where it is kept.
@@ -139,7 +140,7 @@ pub fn count(keep: bool, low: Low, n: usize) -> Low
             reg: low.reg,
             count: low.count + 1,
             recs: low.recs + 1,
-            items: low.items + n,
+            items: low.items + n as u32,
             refused: low.refused,
             decls: low.decls,
         };
@@ -175,7 +176,7 @@ pub fn push_op(keep: bool, low: Low, f: opc::Fields, out: &mut [u8]) -> Low
     if is_full(keep, low, 0) {
         return refused(low, 7);
     }
-    keep_record(keep, low.recs, f, out);
+    keep_record(keep, low.recs as usize, f, out);
     count(keep, low, 0)
 }
 

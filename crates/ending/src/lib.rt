@@ -8,26 +8,26 @@ ghost use Rattle.lent.specs.Bytes.{beValue, part};
 ghost use Rattle.sifv.specs.Slot.{decodeSlot};
 ghost use Rattle.text.specs.Text.{ascii, decimal, numberFields};
 ghost use Rattle.text.specs.Put.{Put};
-ghost use Rattle.ending.specs.Ending.{signed, nameLine};
+ghost use Rattle.listing_text.specs.Ending.{signed, nameLine};
 ghost use Rattle.ending.specs.inner.EndBytes.{signedOf, detailCount, stopIn, endIn, heldIn, namesIn, ranIn};
 
 // How many details a stop has.
 fn detail_count(n: u64) -> u64
     ensures { λ r. ⌜ r ≡ detailCount n ⌝ }
 {
-    if n == 31 {
+    if n == vm::INDEX_OUT_OF_BOUNDS {
         return 3;
     }
-    if n == 20 {
+    if n == vm::INVALID_NAME {
         return 1;
     }
-    if n == 26 {
+    if n == vm::REG_NO_CONTENTS {
         return 1;
     }
-    if n == 28 {
+    if n == vm::NOT_AN_ARRAY {
         return 1;
     }
-    if n == 29 {
+    if n == vm::INVALID_FN_SYM {
         return 1;
     }
     0
@@ -42,12 +42,12 @@ fn put_details(out: &mut [u8], at: usize, report: &[u8], number: u64) -> usize
     if n == 0 {
         return at;
     }
-    let p = text::put_field(out, at, lent::get_u64(report, 16));
+    let p = text::put_field(out, at, lent::get_u64(report, vm::REPORT_DETAILS));
     if n == 1 {
         return p;
     }
-    let q = text::put_field(out, p, lent::get_u64(report, 24));
-    text::put_field(out, q, lent::get_u64(report, 32))
+    let q = text::put_field(out, p, lent::get_u64(report, vm::REPORT_DETAIL_2));
+    text::put_field(out, q, lent::get_u64(report, vm::REPORT_DETAIL_3))
 }
 
 // A signed number, from its two's complement, with a blank before it.
@@ -67,8 +67,8 @@ fn put_stop(out: &mut [u8], at: usize, report: &[u8], count: u64) -> usize
     requires { ⌜ (at ≤ length (now out)) × (48 ≤ length (now report)) ⌝ }
     ensures { λ r. ⌜ Put (now (out .entry)) at (stopIn (now (report .entry)) count) (now (out .exit)) r ⌝ }
 {
-    let number = lent::wide(report[1]);
-    let line = lent::get_u64(report, 8);
+    let number = lent::wide(report[vm::REPORT_STOP]);
+    let line = lent::get_u64(report, vm::REPORT_LINE);
     let p = text::put_all(out, at, b"end stopped");
     let q = text::put_field(out, p, count);
     let s = text::put_field(out, q, number);
@@ -114,7 +114,7 @@ pub fn put_held(out: &mut [u8], at: usize, state: &[u8]) -> usize
     requires { ⌜ (at ≤ length (now out)) × (47360 ≤ length (now state)) ⌝ }
     ensures { λ r. ⌜ Put (now (out .entry)) at (heldIn (now (state .entry))) (now (out .exit)) r ⌝ }
 {
-    let mark = lent::get_u64(state, 47328);
+    let mark = lent::get_u64(state, vm::STATE_MARK);
     put_counted(out, at, b"held", ones(mark))
 }
 
@@ -123,7 +123,7 @@ fn put_name(out: &mut [u8], at: usize, state: &[u8], x: usize) -> usize
     requires { ⌜ (at ≤ length (now out)) × (47360 ≤ length (now state)) × (x < 64) ⌝ }
     ensures { λ r. ⌜ Put (now (out .entry)) at (nameLine x (decodeSlot (part (now (state .entry)) (24576 + x * 256) 256))) (now (out .exit)) r ⌝ }
 {
-    let from = 24576 + x * 256;
+    let from = vm::STATE_NAMES + x * sifv::VALUE_SIZE;
     let kind = sifv::kind_of(sifv::get(state, from));
     if kind == 0 {
         return at;
@@ -142,7 +142,7 @@ pub fn put_names(out: &mut [u8], at: usize, state: &[u8]) -> usize
 {
     let mut p = at;
     let mut x = 0;
-    while x < 64 {
+    while x < lent::TEXTS {
         p = put_name(out, p, state, x);
         x += 1;
     }
@@ -154,7 +154,7 @@ pub fn put_ran(out: &mut [u8], at: usize, state: &[u8], report: &[u8]) -> usize
     requires { ⌜ (at ≤ length (now out)) × (47360 ≤ length (now state)) × (48 ≤ length (now report)) ⌝ }
     ensures { λ r. ⌜ Put (now (out .entry)) at (ranIn (now (state .entry)) (now (report .entry))) (now (out .exit)) r ⌝ }
 {
-    let p = put_end(out, at, report, lent::get_u64(state, 47336));
+    let p = put_end(out, at, report, lent::get_u64(state, vm::STATE_COUNT));
     let q = put_held(out, p, state);
     put_names(out, q, state)
 }

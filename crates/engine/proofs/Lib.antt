@@ -1,6 +1,1 @@
-pub mod Shown
-pub mod Cases
-pub mod Rows
-pub mod Programs
-mod Started
 mod Carrying

@@ -1,15 +1,17 @@
 // The engine as C calls it, and lists of calls.
 ghost use mathlib.Core.Path.{_≡_};
-ghost use mathlib.Core.List.{List};
 ghost use mathlib.Core.Option.{some};
-ghost use Prim.Native.Nat.{ℕ, _+_, _*_, _≤_, _<_, min};
+ghost use Prim.Native.Nat.{_+_, _*_, _≤_, _<_, min};
 ghost use lib.ListN.{length};
 ghost use Rattle.lent.specs.Bytes.{beValue, part};
-ghost use Rattle.lower.specs.LowerCall.{answered, lowerCall};
-ghost use Rattle.boundary.specs.Calls.{startCall, runCall, readCall};
-ghost use Rattle.engine.specs.CallList.{Call, Run, ReadName, endingIn};
+ghost use Rattle.lent.specs.Answered.{answered};
+ghost use Rattle.boundary.specs.LowerCall.{lowerCall};
+ghost use Rattle.boundary.specs.StartCall.{startCall};
+ghost use Rattle.boundary.specs.RunCall.{runCall};
+ghost use Rattle.boundary.specs.ReadCall.{readCall};
+ghost use Rattle.demand3.specs.CallList.{Run, ReadName, endingIn};
 ghost use Rattle.engine.specs.CallBytes.{callOf, lastOf};
-ghost use Rattle.engine.specs.CarriedOut.{Leaves, OneCall, CarriedOut};
+ghost use Rattle.engine.specs.CarriedOut.{OneCall, CarriedOut};
 
 // ---- the calls from C: a slice is a pointer and a length
 
@@ -24,24 +26,38 @@ pub extern "C" fn sif_lower(file: &[u8], program: &mut [u8]) -> u64
 pub extern "C" fn sif_start(program: &[u8], state: &mut [u8]) -> u64
     ensures { λ r. ⌜ startCall (now (program .entry)) (now (state .entry)) ≡ answered r (now (state .exit)) ⌝ }
 {
-    calls::start(program, state)
+    calls::start_call::start(program, state)
 }
 
 #[no_mangle]
 pub extern "C" fn sif_run(program: &[u8], state: &mut [u8], steps: u64, report: &mut [u8]) -> u64
     ensures { λ r. ⌜ runCall (now (program .entry)) (now (state .entry)) steps (now (report .entry)) ≡ record { result = r; state = now (state .exit); report = now (report .exit) } ⌝ }
 {
-    calls::run(program, state, steps, report)
+    calls::run_call::run(program, state, steps, report)
 }
 
 #[no_mangle]
 pub extern "C" fn sif_read_name(state: &[u8], text: u64, out: &mut [u8]) -> u64
     ensures { λ r. ⌜ readCall (now (state .entry)) text (now (out .entry)) ≡ answered r (now (out .exit)) ⌝ }
 {
-    calls::read_name(state, text, out)
+    calls::read_call::read_name(state, text, out)
 }
 
 // ---- a list of calls
+
+// A list of calls: specs/CallBytes.antt. The kind is at byte 0 of an entry.
+pub const CALL_SIZE: usize = 16;
+
+pub const CALL_LENGTH: usize = 6;
+
+pub const CALL_NUMBER: usize = 8;
+
+// The longest buffer that is lent for an answer.
+pub const CALL_LENT: usize = 256;
+
+pub const CALL_RUN: u8 = 0;
+
+pub const CALL_READ_NAME: u8 = 1;
 
 // How the last steps given ended, where any were.
 pub struct Last {
@@ -61,17 +77,17 @@ fn told(report: &[u8]) -> Last
     Last {
         given: true,
         answer: report[0],
-        number: report[1],
-        a: lent::get_u64(report, 16),
-        b: lent::get_u64(report, 24),
-        c: lent::get_u64(report, 32),
+        number: report[vm::REPORT_STOP],
+        a: lent::get_u64(report, vm::REPORT_DETAILS),
+        b: lent::get_u64(report, vm::REPORT_DETAIL_2),
+        c: lent::get_u64(report, vm::REPORT_DETAIL_3),
     }
 }
 
 fn run_next(program: &[u8], state: &mut [u8], steps: u64, out: &mut [u8], last: Last) -> Last
-    ensures { λ r. ⌜ OneCall (now (program .entry)) (Run steps (now (out .entry))) (now (state .entry)) last (now (state .exit)) r ⌝ }
+    ensures { λ r. ⌜ OneCall (now (program .entry)) (some (Run steps (now (out .entry)))) (now (state .entry)) last (now (state .exit)) r ⌝ }
 {
-    let n = calls::run(program, state, steps, out);
+    let n = calls::run_call::run(program, state, steps, out);
     if n != 0 {
         return last;
     }
@@ -82,9 +98,9 @@ fn run_next(program: &[u8], state: &mut [u8], steps: u64, out: &mut [u8], last: 
 }
 
 fn read_next(program: &[u8], state: &[u8], text: u64, out: &mut [u8], last: Last) -> Last
-    ensures { λ r. ⌜ OneCall (now (program .entry)) (ReadName text (now (out .entry))) (now (state .entry)) last (now (state .entry)) r ⌝ }
+    ensures { λ r. ⌜ OneCall (now (program .entry)) (some (ReadName text (now (out .entry)))) (now (state .entry)) last (now (state .entry)) r ⌝ }
 {
-    let n = calls::read_name(state, text, out);
+    let n = calls::read_call::read_name(state, text, out);
     last
 }
 
@@ -93,32 +109,36 @@ fn out_length(calls: &[u8], at: usize) -> usize
     requires { ⌜ at + 16 ≤ length (now calls) ⌝ }
     ensures { λ r. ⌜ r ≡ min (beValue (part (now (calls .entry)) (at + 6) 2)) 256 ⌝ }
 {
-    let n = lent::get_u16(calls, at + 6) as usize;
-    if n < 256 {
+    let n = lent::get_u16(calls, at + CALL_LENGTH) as usize;
+    if n < CALL_LENT {
         return n;
     }
-    256
+    CALL_LENT
 }
 
-// The call at byte `at` of a list.
+// The call at byte `at` of a list, by its kind.
 fn call_next(program: &[u8], state: &mut [u8], calls: &[u8], at: usize, last: Last) -> Last
     requires { ⌜ at + 16 ≤ length (now calls) ⌝ }
     ensures { λ r. ⌜ OneCall (now (program .entry)) (callOf (part (now (calls .entry)) at 16)) (now (state .entry)) last (now (state .exit)) r ⌝ }
 {
-    let mut out = [0u8; 256];
+    let mut out = [0u8; CALL_LENT];
     let len = out_length(calls, at);
-    let number = lent::get_u64(calls, at + 8);
-    if calls[at] == 0 {
+    let number = lent::get_u64(calls, at + CALL_NUMBER);
+    let kind = calls[at];
+    if kind == CALL_RUN {
         return run_next(program, state, number, &mut out[0..len], last);
     }
-    read_next(program, state, number, &mut out[0..len], last)
+    if kind == CALL_READ_NAME {
+        return read_next(program, state, number, &mut out[0..len], last);
+    }
+    last
 }
 
 // Every call of the list, one after the other.
 pub fn call_all(program: &[u8], state: &mut [u8], calls: &[u8]) -> Last
     ensures { λ r. ⌜ CarriedOut (now (program .entry)) (now (calls .entry)) (now (state .entry)) (now (state .exit)) r ⌝ }
 {
-    let n = calls.len() / 16;
+    let n = calls.len() / CALL_SIZE;
     let mut last = Last {
         given: false,
         answer: 0,
@@ -129,7 +149,7 @@ pub fn call_all(program: &[u8], state: &mut [u8], calls: &[u8]) -> Last
     };
     let mut i = 0;
     while i < n {
-        last = call_next(program, state, calls, 16 * i, last);
+        last = call_next(program, state, calls, CALL_SIZE * i, last);
         i += 1;
     }
     last

@@ -22,7 +22,8 @@ ghost use Rattle.opc.specs.inner.Shows.{SingleIn, ShowsLiteral, Entered, entryO
 ghost use Rattle.tables.specs.Tables.{Program, labelAt};
 ghost use Rattle.execute.specs.inner.View.{given, binModel, unModel, poolOf, arrayAt, literalIn, InPool, regsOf, namesOf, view, onLoc, ReadsSingle, Loaded, Wrote, Named, steppedOf, Stepped, Neat, Canon, Holds, someOf, updateOf};
 ghost use Rattle.sifv.specs.inner.Forms.{Formed};
-ghost use Rattle.execute.specs.inner.ProgramView.{programIn, ProgramReady, jmpModel, jumpedOf, takenOf};
+ghost use Rattle.tables.specs.ProgramBytes.{programIn};
+ghost use Rattle.execute.specs.inner.ProgramView.{ProgramReady, jmpModel, jumpedOf, takenOf};
 ghost use Rattle.opc.specs.inner.Fetch.{recordAt};
 use numeric::Index;
 use opc::BinOpKind;
@@ -47,10 +48,23 @@ pub struct Loc {
     pub calls: usize,
 }
 
+// How far a run is: position and depths, and the steps completed since start.
+pub struct Progress {
+    pub loc: Loc,
+    pub count: u64,
+}
+
 // What comes of a step.
 pub enum Step {
     Goes(Loc),
     Stops(RuntimeErr),
+}
+
+// How a run ended.
+pub enum Answer {
+    Done,
+    Stopped(RuntimeErr),
+    Spent,
 }
 
 // A single value that an operation reads or computes, or its stop.
@@ -65,202 +79,146 @@ pub enum Did {
     Err(RuntimeErr),
 }
 
-fn invalid_name(x: usize) -> RuntimeErr
-    ensures { λ r. ⌜ r ≡ given (Rule.InvalidName x) ⌝ }
+// A stop without details, with one, and with three.
+fn stop(number: u64) -> RuntimeErr
+    ensures { λ r. ⌜ r ≡ record { number = number; a = 0; b = 0; c = 0 } ⌝ }
 {
     RuntimeErr {
-        number: 20,
+        number,
+        a: 0,
+        b: 0,
+        c: 0,
+    }
+}
+
+fn stop_of(number: u64, x: usize) -> RuntimeErr
+    ensures { λ r. ⌜ r ≡ record { number = number; a = x; b = 0; c = 0 } ⌝ }
+{
+    RuntimeErr {
+        number,
         a: x as u64,
         b: 0,
         c: 0,
     }
 }
 
-fn invalid_incr() -> RuntimeErr
-    ensures { λ r. ⌜ r ≡ given Rule.InvalidIncr ⌝ }
+fn stop_in(number: u64, x: usize, i: u64, n: u64) -> RuntimeErr
+    ensures { λ r. ⌜ r ≡ record { number = number; a = x; b = i; c = n } ⌝ }
 {
     RuntimeErr {
-        number: 21,
-        a: 0,
-        b: 0,
-        c: 0,
-    }
-}
-
-fn invalid_incr_ty() -> RuntimeErr
-    ensures { λ r. ⌜ r ≡ given Rule.InvalidIncrTy ⌝ }
-{
-    RuntimeErr {
-        number: 22,
-        a: 0,
-        b: 0,
-        c: 0,
-    }
-}
-
-fn invalid_decr() -> RuntimeErr
-    ensures { λ r. ⌜ r ≡ given Rule.InvalidDecr ⌝ }
-{
-    RuntimeErr {
-        number: 23,
-        a: 0,
-        b: 0,
-        c: 0,
-    }
-}
-
-fn invalid_decr_ty() -> RuntimeErr
-    ensures { λ r. ⌜ r ≡ given Rule.InvalidDecrTy ⌝ }
-{
-    RuntimeErr {
-        number: 24,
-        a: 0,
-        b: 0,
-        c: 0,
-    }
-}
-
-fn invalid_jump() -> RuntimeErr
-    ensures { λ r. ⌜ r ≡ given Rule.InvalidJump ⌝ }
-{
-    RuntimeErr {
-        number: 25,
-        a: 0,
-        b: 0,
-        c: 0,
-    }
-}
-
-fn reg_no_contents(x: usize) -> RuntimeErr
-    ensures { λ r. ⌜ r ≡ given (Rule.RegNoContents x) ⌝ }
-{
-    RuntimeErr {
-        number: 26,
-        a: x as u64,
-        b: 0,
-        c: 0,
-    }
-}
-
-fn ty_mismatch() -> RuntimeErr
-    ensures { λ r. ⌜ r ≡ given Rule.TyMismatch ⌝ }
-{
-    RuntimeErr {
-        number: 27,
-        a: 0,
-        b: 0,
-        c: 0,
-    }
-}
-
-fn not_an_array(x: usize) -> RuntimeErr
-    ensures { λ r. ⌜ r ≡ given (Rule.NotAnArray x) ⌝ }
-{
-    RuntimeErr {
-        number: 28,
-        a: x as u64,
-        b: 0,
-        c: 0,
-    }
-}
-
-fn invalid_fn_sym(x: usize) -> RuntimeErr
-    ensures { λ r. ⌜ r ≡ given (Rule.InvalidFnSym x) ⌝ }
-{
-    RuntimeErr {
-        number: 29,
-        a: x as u64,
-        b: 0,
-        c: 0,
-    }
-}
-
-fn empty_call_stack() -> RuntimeErr
-    ensures { λ r. ⌜ r ≡ given Rule.EmptyCallStack ⌝ }
-{
-    RuntimeErr {
-        number: 30,
-        a: 0,
-        b: 0,
-        c: 0,
-    }
-}
-
-fn index_out_of_bounds(x: usize, i: u64, n: u64) -> RuntimeErr
-    ensures { λ r. ⌜ r ≡ given (Rule.IndexOutOfBounds x i n) ⌝ }
-{
-    RuntimeErr {
-        number: 31,
+        number,
         a: x as u64,
         b: i,
         c: n,
     }
 }
 
+fn invalid_name(x: usize) -> RuntimeErr
+    ensures { λ r. ⌜ r ≡ given (Rule.InvalidName x) ⌝ }
+{
+    stop_of(vm::INVALID_NAME, x)
+}
+
+fn invalid_incr() -> RuntimeErr
+    ensures { λ r. ⌜ r ≡ given Rule.InvalidIncr ⌝ }
+{
+    stop(vm::INVALID_INCR)
+}
+
+fn invalid_incr_ty() -> RuntimeErr
+    ensures { λ r. ⌜ r ≡ given Rule.InvalidIncrTy ⌝ }
+{
+    stop(vm::INVALID_INCR_TY)
+}
+
+fn invalid_decr() -> RuntimeErr
+    ensures { λ r. ⌜ r ≡ given Rule.InvalidDecr ⌝ }
+{
+    stop(vm::INVALID_DECR)
+}
+
+fn invalid_decr_ty() -> RuntimeErr
+    ensures { λ r. ⌜ r ≡ given Rule.InvalidDecrTy ⌝ }
+{
+    stop(vm::INVALID_DECR_TY)
+}
+
+fn invalid_jump() -> RuntimeErr
+    ensures { λ r. ⌜ r ≡ given Rule.InvalidJump ⌝ }
+{
+    stop(vm::INVALID_JUMP)
+}
+
+fn reg_no_contents(x: usize) -> RuntimeErr
+    ensures { λ r. ⌜ r ≡ given (Rule.RegNoContents x) ⌝ }
+{
+    stop_of(vm::REG_NO_CONTENTS, x)
+}
+
+fn ty_mismatch() -> RuntimeErr
+    ensures { λ r. ⌜ r ≡ given Rule.TyMismatch ⌝ }
+{
+    stop(vm::TY_MISMATCH)
+}
+
+fn not_an_array(x: usize) -> RuntimeErr
+    ensures { λ r. ⌜ r ≡ given (Rule.NotAnArray x) ⌝ }
+{
+    stop_of(vm::NOT_AN_ARRAY, x)
+}
+
+fn invalid_fn_sym(x: usize) -> RuntimeErr
+    ensures { λ r. ⌜ r ≡ given (Rule.InvalidFnSym x) ⌝ }
+{
+    stop_of(vm::INVALID_FN_SYM, x)
+}
+
+fn empty_call_stack() -> RuntimeErr
+    ensures { λ r. ⌜ r ≡ given Rule.EmptyCallStack ⌝ }
+{
+    stop(vm::EMPTY_CALL_STACK)
+}
+
+fn index_out_of_bounds(x: usize, i: u64, n: u64) -> RuntimeErr
+    ensures { λ r. ⌜ r ≡ given (Rule.IndexOutOfBounds x i n) ⌝ }
+{
+    stop_in(vm::INDEX_OUT_OF_BOUNDS, x, i, n)
+}
+
 fn empty_register() -> RuntimeErr
     ensures { λ r. ⌜ r ≡ given Rule.EmptyRegister ⌝ }
 {
-    RuntimeErr {
-        number: 32,
-        a: 0,
-        b: 0,
-        c: 0,
-    }
+    stop(vm::EMPTY_REGISTER)
 }
 
 fn key_absent() -> RuntimeErr
     ensures { λ r. ⌜ r ≡ given Rule.KeyAbsent ⌝ }
 {
-    RuntimeErr {
-        number: 33,
-        a: 0,
-        b: 0,
-        c: 0,
-    }
+    stop(vm::KEY_ABSENT)
 }
 
-fn not_single() -> RuntimeErr
-    ensures { λ r. ⌜ r ≡ given Rule.NotSingle ⌝ }
+fn nested() -> RuntimeErr
+    ensures { λ r. ⌜ r ≡ given Rule.Nested ⌝ }
 {
-    RuntimeErr {
-        number: 34,
-        a: 0,
-        b: 0,
-        c: 0,
-    }
+    stop(vm::NESTED)
 }
 
 fn stack_full() -> RuntimeErr
     ensures { λ r. ⌜ r ≡ given Rule.StackFull ⌝ }
 {
-    RuntimeErr {
-        number: 35,
-        a: 0,
-        b: 0,
-        c: 0,
-    }
+    stop(vm::STACK_FULL)
 }
 
-fn keys_full() -> RuntimeErr
-    ensures { λ r. ⌜ r ≡ given Rule.KeysFull ⌝ }
+fn table_full() -> RuntimeErr
+    ensures { λ r. ⌜ r ≡ given Rule.TableFull ⌝ }
 {
-    RuntimeErr {
-        number: 36,
-        a: 0,
-        b: 0,
-        c: 0,
-    }
+    stop(vm::TABLE_FULL)
 }
 
 fn no_index() -> RuntimeErr
     ensures { λ r. ⌜ r ≡ given Rule.NoIndex ⌝ }
 {
-    RuntimeErr {
-        number: 38,
-        a: 0,
-        b: 0,
-        c: 0,
-    }
+    stop(vm::NO_INDEX)
 }
 
 // ---- places
@@ -290,14 +248,14 @@ pub fn reg(r: usize) -> usize
     requires { ⌜ r < 96 ⌝ }
     ensures { λ a. ⌜ a ≡ 0 + r * 256 ⌝ }
 {
-    r * 256
+    r * sifv::VALUE_SIZE
 }
 
 pub fn slot(x: usize) -> usize
     requires { ⌜ x < 64 ⌝ }
     ensures { λ a. ⌜ a ≡ 24576 + x * 256 ⌝ }
 {
-    24576 + x * 256
+    vm::STATE_NAMES + x * sifv::VALUE_SIZE
 }
 
 // A value into register dest, or the stop: the one writer of what the readers below get.
@@ -504,11 +462,15 @@ fn put_item(program: &[u8], state: &mut [u8], at: usize, i: usize, k: usize)
     requires { ⌜ (32768 ≤ length (now program)) × (at + 256 ≤ length (now state)) × (i < 24) × (k < 1024) × Entered (part (now program) (16384 + 16 * k) 16) ⌝ }
     ensures { λ _. ⌜ now (state .exit) ≡ splice (now (state .entry)) at (setItem (part (now (state .entry)) at 256) i (entryOf (part (now (program .entry)) (16384 + 16 * k) 16))) ⌝ }
 {
-    let e = 16384 + 16 * k;
+    let e = opc::PROGRAM_POOL + opc::ENTRY_SIZE * k;
     let kind = program[e];
-    let word = sifv::stored_word(kind, lent::get_u64(program, e + 8));
-    state[at + (16 + i)] = kind;
-    lent::put_u64(state, at + (40 + i * 8), word);
+    let word = sifv::stored_word(kind, lent::get_u64(program, e + opc::ENTRY_NUMBER));
+    state[at + (sifv::VALUE_ITEM_KINDS + i)] = kind;
+    lent::put_u64(
+        state,
+        at + (sifv::VALUE_ITEMS + i * sifv::NUMBER_SIZE),
+        word,
+    );
 }
 
 // An array whose items begin at entry first of the pool, over the slot at byte at.
@@ -516,9 +478,9 @@ fn put_array(program: &[u8], state: &mut [u8], at: usize, len: u64, first: u64)
     requires { ⌜ (32768 ≤ length (now program)) × (at + 256 ≤ length (now state)) × InPool (poolOf (now program)) len first ⌝ }
     ensures { λ _. ⌜ now (state .exit) ≡ splice (now (state .entry)) at (encodeSlot (some (arrayAt (now (program .entry)) len first))) ⌝ }
 {
-    lent::zero(state, at, 256);
+    lent::zero(state, at, sifv::VALUE_SIZE);
     state[at] = 5;
-    state[at + 1] = len as u8;
+    state[at + sifv::VALUE_LENGTH] = len as u8;
     let n = len as usize;
     let start = first as usize;
     let mut i = 0;
@@ -689,7 +651,7 @@ fn update(state: &mut [u8], name: usize, i: u64, val: usize) -> Did
     }
     let from = reg(val);
     if 5 <= sifv::kind_at(state, from) {
-        return Did::Err(not_single());
+        return Did::Err(nested());
     }
     sifv::store_item(state, at, i as usize, from);
     Did::Ok
@@ -723,10 +685,10 @@ fn push(state: &mut [u8], loc: Loc, src: usize) -> Step
         return Step::Stops(empty_register());
     }
     let depth = loc.depth;
-    if 24 <= depth {
+    if vm::VALUE_STACK <= depth {
         return Step::Stops(stack_full());
     }
-    sifv::move_to(state, from, 40960 + depth * 256);
+    sifv::move_to(state, from, vm::STATE_STACK + depth * sifv::VALUE_SIZE);
     Step::Goes(Loc {
         pos: loc.pos + 1,
         depth: depth + 1,
@@ -745,7 +707,7 @@ fn pop(state: &mut [u8], loc: Loc, dest: usize) -> Step
         return Step::Goes(on(loc));
     }
     let n = depth - 1;
-    let at = 40960 + n * 256;
+    let at = vm::STATE_STACK + n * sifv::VALUE_SIZE;
     sifv::move_to(state, at, to);
     sifv::set(state, at, SifVal::Empty);
     Step::Goes(Loc {
@@ -759,15 +721,19 @@ fn call(state: &mut [u8], loc: Loc, name: usize) -> Step
     requires { ⌜ Holds (now state) (view (now state) loc) × (loc .calls ≤ 24) × (loc .pos ≤ 1024) × (name < 64) ⌝ }
     ensures { λ r. ⌜ Stepped (now (state .entry)) (now (state .exit)) (Machine.call (view (now (state .entry)) loc) name (functionsAt (now (state .entry)) name)) r ⌝ }
 {
-    let t = lent::get_u16(state, 47200 + name * 2) as usize;
+    let t = lent::get_u16(state, vm::STATE_FUNCTIONS + name * tables::INDEX_SIZE) as usize;
     if t == 0 {
         return Step::Stops(invalid_fn_sym(name));
     }
     let calls = loc.calls;
-    if 24 <= calls {
+    if vm::CALL_STACK <= calls {
         return Step::Stops(stack_full());
     }
-    lent::put_u16(state, 47104 + calls * 4, loc.pos as u64);
+    lent::put_u16(
+        state,
+        vm::STATE_CALLS + calls * vm::FRAME_SIZE,
+        loc.pos as u64,
+    );
     Step::Goes(Loc {
         pos: t,
         depth: loc.depth,
@@ -784,7 +750,7 @@ fn ret(state: &mut [u8], loc: Loc) -> Step
         return Step::Stops(empty_call_stack());
     }
     let n = calls - 1;
-    let at = 47104 + n * 4;
+    let at = vm::STATE_CALLS + n * vm::FRAME_SIZE;
     let t = lent::get_u16(state, at) as usize;
     lent::put_u16(state, at, 0);
     Step::Goes(Loc {
@@ -800,7 +766,10 @@ fn jump(program: &[u8], loc: Loc, lblidx: u64) -> Step
     requires { ⌜ ProgramReady (now program) (programIn (now program)) × (lblidx < 1024) ⌝ }
     ensures { λ r. ⌜ r ≡ jumpedOf loc (labelAt (programIn (now (program .entry)) .code) lblidx) ⌝ }
 {
-    let t = lent::get_u16(program, 32768 + lblidx as usize * 2) as usize;
+    let t = lent::get_u16(
+        program,
+        tables::PROGRAM_LABELS + lblidx as usize * tables::INDEX_SIZE,
+    ) as usize;
     if t == 0 {
         return Step::Stops(invalid_jump());
     }
@@ -838,7 +807,11 @@ fn declare(state: &mut [u8], loc: Loc, name: usize) -> Step
     requires { ⌜ Holds (now state) (view (now state) loc) × (loc .pos ≤ 1024) × (name < 64) ⌝ }
     ensures { λ r. ⌜ Stepped (now (state .entry)) (now (state .exit)) (Machine.Goes (Machine.advance (Machine.withFn (view (now (state .entry)) loc) name))) r ⌝ }
 {
-    lent::put_u16(state, 47200 + name * 2, (loc.pos + 1) as u64);
+    lent::put_u16(
+        state,
+        vm::STATE_FUNCTIONS + name * tables::INDEX_SIZE,
+        (loc.pos + 1) as u64,
+    );
     Step::Goes(on(loc))
 }
 

@@ -45,8 +45,8 @@ fn insert(state: &mut [u8], tabname: usize, key: usize, src: usize) -> Did
         sifv::store_item(state, at, i, from);
         return Did::Ok;
     }
-    if 16 <= n {
-        return Did::Err(crate::keys_full());
+    if lent::TABLE_ITEMS <= n {
+        return Did::Err(crate::table_full());
     }
     sifv::table::insert_new(state, at, n, i, key as u64, from);
     Did::Ok
@@ -68,7 +68,7 @@ pub fn tbli(state: &mut [u8], tabname: usize, key: usize, src: usize) -> Did
         return Did::Err(crate::empty_register());
     }
     if 5 <= j {
-        return Did::Err(crate::not_single());
+        return Did::Err(crate::nested());
     }
     insert(state, tabname, key, src)
 }

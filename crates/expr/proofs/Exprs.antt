@@ -1,5 +1,5 @@
 -- Expressions: a section for each function.
-use Prim.Native.Nat.{ℕ, suc, _+_, _^_, _≤_, _<_}
+use Prim.Native.Nat.{ℕ, suc, _+_, _-_, _*_, _^_, _≤_, _<_}
 use mathlib.Core.Path.{_≡_, refl, ap, sym, _∙_}
 use mathlib.Core.Bool.{Bool, true, false, cond}
 use mathlib.Core.List.{List, [], _∷_, _++_, append-assoc}
@@ -116,6 +116,10 @@ one-of P t h o = record { cont = omega (arith, fits-nodes h); body = omega (arit
 module _ {X : Type 0} {P : Part X} {c b : List ℕ} (o : Child P c b) {n : ℕ} {s : Low} {buf : List ℕ} (rdy : Ready s buf) {p₀ : Done} (e₀ : p₀ ≡ record { cont = 2; body = 1; lbl = n; low = s }) where
   pub one-reads : ReadsAt P c b p₀ buf
   one-reads = child-reads P (o .tree) 2 1 c b (o .child) (o .cont) (o .body) rdy e₀
+
+  -- less is left for the child, by the measure of the functions that call one another
+  pub one-asks : (j : ℕ) {t : ℕ} → length c * 8 + 0 ≡ t → j < 16 → ((length c - p₀ .cont) * 8 + j < t) × ReadsAt P c b p₀ buf
+  one-asks j m l = (omega (arith, m, l, o .cont, ap (λ (d : Done). d .cont) e₀), one-reads)
 
   module _ {k : Bool} {r₁ : Done} {buf₁ : List ℕ} (g : Goes P c b k p₀ buf r₁ buf₁) where
     pub one-made : (w : Place) → k ≡ kept (s .decls) (w .section)

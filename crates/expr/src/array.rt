@@ -89,7 +89,7 @@ fn push_items(keep: bool, low: emit::Low, f: opc::Fields, n: usize, out: &mut [u
     if emit::is_full(keep, low, n) {
         return emit::refused(low, 7);
     }
-    emit::keep_record(keep, low.recs, f, out);
+    emit::keep_record(keep, low.recs as usize, f, out);
     emit::count(keep, low, n)
 }
 
@@ -124,7 +124,7 @@ pub fn arraydecl(
 {
     let n = contents[1];
     let m = n as usize;
-    let k = low.items;
+    let k = low.items as usize;
     let f = array_fields(lbl, bodies[0], n, k);
     let q = push_items(keep, low, f, m, out);
     let end = arrayitems(m, contents, bodies, low.recs < q.recs, k, out);

@@ -6,42 +6,42 @@ abbrev pub fileCut : ℕ
 fileCut = 1
 
 -- "node count outside 1 to 1,024 or text count outside 1 to 64"
-abbrev pub badCounts : ℕ
-badCounts = 2
+abbrev pub fileCounts : ℕ
+fileCounts = 2
 
 -- "a text over 40 bytes, with a byte outside 32 to 126, out of order, text 0 not `fortmp`, or a later text equal to it"
-abbrev pub badTexts : ℕ
-badTexts = 3
+abbrev pub fileTexts : ℕ
+fileTexts = 3
 
 -- "unknown kind, a node where it may not stand, wrong child count, child counts that do not use up the nodes exactly, depth over 32 (Program is 1), more than
 -- 8 loops nested, over 24 array or 16 table items, a key twice in one table, a function inside a function"
-abbrev pub badStructure : ℕ
-badStructure = 4
+abbrev pub fileStructure : ℕ
+fileStructure = 4
 
 -- "a text number not below the text count, or an unknown operator"
-abbrev pub badNumbers : ℕ
-badNumbers = 5
+abbrev pub fileNumbers : ℕ
+fileNumbers = 5
 
 -- "`binarg` or `arraymutexpr` would take the register before register 0"
 abbrev pub noRegister : ℕ
 noRegister = 6
 
 -- "more than 96 registers or 1,024 instructions"
-abbrev pub tooLarge : ℕ
-tooLarge = 7
+abbrev pub scriptTooLarge : ℕ
+scriptTooLarge = 7
 
 -- a program that is not accepted, or, where a name is read, a text number over 63
-abbrev pub badProgram : ℕ
-badProgram = 8
+abbrev pub programRefused : ℕ
+programRefused = 8
 
 -- "a lent buffer too short"
-abbrev pub shortBuffer : ℕ
-shortBuffer = 9
+abbrev pub bufferTooShort : ℕ
+bufferTooShort = 9
 
 -- "state bytes with a field outside its range …, or a count that with the given steps would pass 2^64 − 1"
-abbrev pub badState : ℕ
-badState = 10
+abbrev pub stateRefused : ℕ
+stateRefused = 10
 
 -- document 02, M-104: "A Num body that is NaN or infinite"
-abbrev pub notFinite : ℕ
-notFinite = 39
+abbrev pub numberNotFinite : ℕ
+numberNotFinite = 39

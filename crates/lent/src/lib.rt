@@ -4,6 +4,36 @@ ghost use Prim.Native.Nat.{_+_, _%_, _≤_, _<_};
 ghost use lib.ListN.{length, replicate};
 ghost use Rattle.lent.specs.Bytes.{beValue, beBytes, part, splice, sameBytes};
 
+// The refusals: specs/Refusals.antt.
+pub const FILE_CUT: u64 = 1;
+
+pub const FILE_COUNTS: u64 = 2;
+
+pub const FILE_TEXTS: u64 = 3;
+
+pub const FILE_STRUCTURE: u64 = 4;
+
+pub const FILE_NUMBERS: u64 = 5;
+
+pub const NO_REGISTER: u64 = 6;
+
+pub const SCRIPT_TOO_LARGE: u64 = 7;
+
+pub const PROGRAM_REFUSED: u64 = 8;
+
+pub const BUFFER_TOO_SHORT: u64 = 9;
+
+pub const STATE_REFUSED: u64 = 10;
+
+pub const NUMBER_NOT_FINITE: u64 = 39;
+
+// Limits of tree files, programs and values alike: texts, the items of an array and of a table.
+pub const TEXTS: usize = 64;
+
+pub const ARRAY_ITEMS: usize = 24;
+
+pub const TABLE_ITEMS: usize = 16;
+
 pub fn wide(x: u8) -> u64
     ensures { λ r. ⌜ (r ≡ x) × (r < 256) ⌝ }
 {

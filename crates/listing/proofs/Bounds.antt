@@ -18,7 +18,7 @@ use Rattle.text.specs.laws.PutLaws.{put-as}
 use Rattle.bound.specs.inner.Weights.{limit}
 use Rattle.bound.specs.inner.BoundOf.{boundOf}
 use Rattle.bound.specs.laws.Whole.{bound-fits, bound-tells}
-use Rattle.engine.specs.Listing.{boundLine}
+use Rattle.listing_text.specs.Listing.{boundLine}
 
 -- the bound n of the code, of a file that is read as t, which is lowered to p
 module _ (f : List ℕ) {n : ℕ} (h : n ≡ boundOf (readTree f) % limit) {t : Stmts} {p : Program} (e : readTree f ≡ Tree t) (l : lower t ≡ lowered p) where

@@ -1,38 +1,38 @@
 -- The listing by the calls that make it: a refused file's number, or what lower, start and a run of 100,000 steps leave.
 use mathlib.Core.Path.{_≡_, refl, sym, ap, _∙_, subst}
-use mathlib.Core.Bool.{Bool, cond}
 use mathlib.Core.List.{List, _++_}
 use mathlib.Core.Option.{some}
 use Prim.Native.Nat.{ℕ, _-_, _^_, _≤_, _<_}
 use native.Mathlib.Omega.{arith}
 use lib.ListN.{length, drop}
-use borrow.Author.Tests.{le-ltb}
+use borrow.Author.Tests.{le-leb}
 use Rattle.lent.specs.Bytes.{AreBytes}
 use Rattle.ast.specs.Tree.{Stmts}
 use Rattle.ast.specs.Plain.{plain}
 use Rattle.ast.specs.File.{Read, Refused, Tree, readTree}
 use Rattle.tables.specs.Tables.{Program}
-use Rattle.tables.specs.ProgramBytes.{programSize, decodeProgram}
+use Rattle.tables.specs.ProgramBytes.{programSize, decodeProgram, orEmpty, programIn}
 use Rattle.compiler.specs.Lower.{Lowered, refused, lowered, lower}
 use Rattle.vm.specs.Machine.{started, run}
 use Rattle.vm.specs.StateBytes.{stateSize, encodeState}
-use Rattle.vm.specs.laws.Kept.{started-storable}
+use Rattle.vm_laws.specs.laws.Kept.{started-storable}
 use Rattle.walk.specs.Bound.{bound}
-use Rattle.report.specs.Report.{reportSize, report}
-use Rattle.lower.specs.LowerCall.{over, Answered, answered, lowerMade, lowerRead, lowerCall}
-use Rattle.boundary.specs.Calls.{RunAnswered, startCall, runRefused, ranOut, runCall}
-use Rattle.engine.specs.laws.Accepting.{accepts}
-use Rattle.engine.specs.laws.ListLaws.{Holds, holds-over, run-answers}
+use Rattle.vm.specs.Report.{reportSize, report}
+use Rattle.lent.specs.Answered.{over, Answered, answered, RunAnswered}
+use Rattle.boundary.specs.LowerCall.{lowerMade, lowerRead, lowerCall}
+use Rattle.boundary.specs.StartCall.{startCall}
+use Rattle.boundary.specs.RunCall.{ranOut, runCall}
+use Rattle.demand3.specs.laws.Accepting.{accepts}
+use Rattle.demand3.specs.laws.ListLaws.{Holds, holds-over, run-answers}
 use Rattle.text.specs.Put.{Put}
 use Rattle.text.specs.laws.PutLaws.{put-as, put-within}
 use Rattle.text.specs.laws.Joined.{put-three}
-use Rattle.ops.specs.ProgramText.{programText}
-use Rattle.ending.specs.Ending.{ranText}
+use Rattle.listing_text.specs.ProgramText.{programText}
+use Rattle.listing_text.specs.Ending.{ranText}
 use Rattle.ending.specs.laws.Left.{RunLeft}
 use Rattle.ending.specs.inner.EndBytes.{ranIn}
 use Rattle.ending.specs.laws.LeftLaws.{left-text, run-left}
-use Rattle.engine.specs.Listing.{boundLine, refusedText, loweredText, readText, listing}
-use Rattle.execute.specs.inner.ProgramView.{orEmpty, programIn}
+use Rattle.listing_text.specs.Listing.{boundLine, refusedText, loweredText, readText, listing}
 
 -- ---- a refused file
 
@@ -47,7 +47,7 @@ by-read (Tree t) b h = by-lowered t (lower t) b h
 pub listing-refused : (file program : List ℕ) {n : ℕ} {b : List ℕ} → programSize ≤ length program → answered n b ≡ lowerCall file program → (n ≡ 0 → ⊥) → listing file ≡ refusedText n
 unfolding lowerCall listing
 listing-refused file program {n} {b} h e z =
-    let g : lowerCall file program ≡ lowerRead (readTree file) program = rw (le-ltb (length program) programSize h) in
+    let g : lowerCall file program ≡ lowerRead (readTree file) program = rw (le-leb programSize (length program) h) in
     let k : n ≡ lowerRead (readTree file) program .result = ap (λ (a : Answered). a .result) (e ∙ g) in
     by-read (readTree file) program (λ w. z (k ∙ w)) ∙ ap refusedText (sym k)
 
@@ -82,9 +82,8 @@ calls-made file program state out {n} {q} {a} {s} {b} {s'} {out'} ab hp hs hr e 
     let h : Holds (length (p .code)) s (started p) = subst (λ (x : List ℕ). Holds (length (p .code)) x (started p)) (sym es) (holds-over state (started p) hs st) in
     let sz : programSize ≤ length q = subst (λ (x : List ℕ). programSize ≤ length x) (sym eq) (k .size) in
     let bk : decodeProgram q ≡ some p = ap decodeProgram eq ∙ k .back in
-    let ra = run-answers q p sz bk (k .within) (k .numbers) h 100000 out in
-    let rb : runCall q s 100000 out ≡ ranOut p r 0 s out = ra ∙ ap (λ (c : Bool). cond c (runRefused 9 s out) (ranOut p r 0 s out)) (le-ltb (length out) reportSize hr) in
-    let w = sym g ∙ rb in
+    let ra : runCall q s 100000 out ≡ ranOut p r 0 s out = run-answers q p sz bk (k .within) (k .numbers) h 100000 out hr few in
+    let w = sym g ∙ ra in
     let all = less-none (r .state .count) in
     record {
       tree = k .tree;

@@ -9,7 +9,7 @@ ghost use Rattle.tables.specs.Tables.{Program};
 ghost use Rattle.compiler.specs.Lower.{lower, lowered};
 ghost use Rattle.walk.specs.Bound.{bound};
 ghost use Rattle.text.specs.Put.{Put};
-ghost use Rattle.engine.specs.Listing.{boundLine, refusedText, listing};
+ghost use Rattle.listing_text.specs.Listing.{boundLine, refusedText, listing};
 
 fn put_refused(out: &mut [u8], at: usize, n: u64) -> usize
     requires { ⌜ at ≤ length (now out) ⌝ }
@@ -49,8 +49,8 @@ fn list(
     if n != 0 {
         return put_refused(out, 0, n);
     }
-    let a = calls::start(program, state);
-    let b = calls::run(program, state, 100000, report);
+    let a = calls::start_call::start(program, state);
+    let b = calls::run_call::run(program, state, 100000, report);
     let p = ops::put_program(out, 0, program);
     let q = put_bound(out, p, file);
     ending::put_ran(out, q, state, report)
@@ -60,9 +60,9 @@ fn list(
 fn listing(file: &[u8], out: &mut [u8]) -> usize
     ensures { λ r. ⌜ Put (now (out .entry)) 0 (listing (now (file .entry))) (now (out .exit)) r ⌝ }
 {
-    let mut program = [0u8; 40960];
-    let mut state = [0u8; 65536];
-    let mut report = [0u8; 48];
+    let mut program = [0u8; tables::PROGRAM_SIZE];
+    let mut state = [0u8; vm::STATE_SIZE];
+    let mut report = [0u8; vm::REPORT_SIZE];
     list(file, &mut program, &mut state, &mut report, out)
 }
 

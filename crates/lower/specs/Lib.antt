@@ -1,3 +1,2 @@
-pub mod LowerCall
-pub mod laws
 pub mod inner
+pub mod laws

@@ -6,11 +6,11 @@ ghost use lib.ListN.{length};
 ghost use Rattle.lent.specs.Bytes.{part};
 ghost use Rattle.opc.specs.Op.{Code};
 ghost use Rattle.tables.specs.inner.Entries.{Records};
-ghost use Rattle.compiler.specs.Lower.{lowerTree, refusal};
 ghost use Rattle.ast.specs.Tree.{Stmts};
 ghost use Rattle.ast.specs.File.{Tree, readTree};
 ghost use Rattle.ast.specs.inner.Answer.{answerOf};
-ghost use Rattle.lower.specs.LowerCall.{answered, lowerCall};
+ghost use Rattle.lent.specs.Answered.{answered};
+ghost use Rattle.boundary.specs.LowerCall.{lowerCall};
 ghost use Rattle.lower.specs.inner.Compile.{Spelt, Cleared, Compiled, finished};
 ghost use Rattle.lent.specs.Lists.{zeros};
 
@@ -21,8 +21,8 @@ fn finish(program: &mut [u8], n: usize, start: usize)
     ensures { λ _. ⌜ ((cs : Code) → Records cs n (now (program .entry)) → now (program .exit) ≡ finished cs n start (now (program .entry))) ⌝ }
 {
     tables::compute(program, n);
-    lent::put_u16(program, 34944, n as u64);
-    lent::put_u16(program, 34946, start as u64);
+    lent::put_u16(program, tables::PROGRAM_COUNT, n as u64);
+    lent::put_u16(program, tables::PROGRAM_START, start as u64);
 }
 
 // Whether a node declares a function: kind 9.
@@ -31,7 +31,7 @@ fn declares(entries: &[u8]) -> bool {
     let mut i = 0;
     while i < entries.len() {
         found = found | (entries[i] == 9);
-        i += 2;
+        i += ast::NODE_SIZE;
     }
     found
 }
@@ -52,7 +52,7 @@ fn compile_both(entries: &[u8], bodies: &[u8], program: &mut [u8]) -> u64
     };
     let d = stmt::lower_tree(entries, bodies, decls, program);
     if d.refused != 0 {
-        return d.refused;
+        return d.refused as u64;
     }
     let code = emit::Low {
         reg: 0,
@@ -63,7 +63,7 @@ fn compile_both(entries: &[u8], bodies: &[u8], program: &mut [u8]) -> u64
         refused: 0,
     };
     let c = stmt::lower_tree(entries, bodies, code, program);
-    finish(program, c.recs, d.recs);
+    finish(program, c.recs as usize, d.recs as usize);
     0
 }
 
@@ -87,13 +87,13 @@ fn compile(entries: &[u8], bodies: &[u8], program: &mut [u8]) -> u64
     };
     let c = stmt::lower_tree(entries, bodies, alone, program);
     if c.refused != 0 {
-        return c.refused;
+        return c.refused as u64;
     }
-    if c.recs as u64 == c.count {
-        finish(program, c.recs, 0);
+    if c.recs == c.count {
+        finish(program, c.recs as usize, 0);
         return 0;
     }
-    lent::clear(program, 40960);
+    lent::clear(program, tables::PROGRAM_SIZE);
     compile_both(entries, bodies, program)
 }
 
@@ -103,9 +103,9 @@ fn lower_read(file: &[u8], program: &mut [u8]) -> u64
     requires { ⌜ ((rest : List ℕ) × Cleared rest (now program)) ⌝ }
     ensures { λ r. ⌜ ((t : Stmts) (rest : List ℕ) → readTree (now (file .entry)) ≡ Tree t → Cleared rest (now (program .entry)) → Compiled t rest r (now (program .exit))) ⌝ }
 {
-    let first = 3 + file[2] as usize;
-    let size = first + 2 * (lent::get_u16(file, 0) as usize);
-    let total = ast::bodies::text_bytes(&file[3..first]);
+    let first = ast::FILE_LENGTHS + file[ast::FILE_TEXT_COUNT] as usize;
+    let size = first + ast::NODE_SIZE * (lent::get_u16(file, 0) as usize);
+    let total = ast::bodies::text_bytes(&file[ast::FILE_LENGTHS..first]);
     compile(&file[first..size], &file[size + total..], program)
 }
 
@@ -113,17 +113,17 @@ fn lower_read(file: &[u8], program: &mut [u8]) -> u64
 pub fn lower(file: &[u8], program: &mut [u8]) -> u64
     ensures { λ r. ⌜ answered r (now (program .exit)) ≡ lowerCall (now (file .entry)) (now (program .entry)) ⌝ }
 {
-    if program.len() < 40960 {
-        return 9;
+    if program.len() < tables::PROGRAM_SIZE {
+        return lent::BUFFER_TOO_SHORT;
     }
-    lent::clear(program, 40960);
+    lent::clear(program, tables::PROGRAM_SIZE);
     let n = ast::read(file);
     if n != 0 {
         return n;
     }
     let r = lower_read(file, program);
     if r != 0 {
-        lent::clear(program, 40960);
+        lent::clear(program, tables::PROGRAM_SIZE);
         return r;
     }
     0

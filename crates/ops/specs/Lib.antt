@@ -1,3 +1,2 @@
-pub mod ProgramText
-pub mod laws
 pub mod inner
+pub mod laws

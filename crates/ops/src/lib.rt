@@ -11,10 +11,10 @@ ghost use Rattle.opc.specs.inner.Fetch.{fieldsTold, recordAt};
 ghost use Rattle.tables.specs.ProgramBytes.{decodeProgram};
 ghost use Rattle.text.specs.Text.{ascii, decimal, singleText, joined, valueText, words, numberFields, lineOf};
 ghost use Rattle.text.specs.Put.{Put};
-ghost use Rattle.ops.specs.ProgramText.{opWords, opLine, programText};
+ghost use Rattle.listing_text.specs.ProgramText.{opWords, opLine, programText};
 ghost use Rattle.ops.specs.inner.Told.{binIn, unIn, jmpIn, itemTold, paramAt, literalTold, opIn, Within, PooledTold, instrAt, entryLine, tableEntry};
 ghost use Rattle.lent.specs.Lists.{tabulate};
-ghost use Rattle.execute.specs.inner.ProgramView.{programIn};
+ghost use Rattle.tables.specs.ProgramBytes.{programIn};
 
 // ---- a name and numbers, blanks between
 
@@ -99,8 +99,8 @@ fn put_item(out: &mut [u8], at: usize, program: &[u8], k: usize) -> usize
     requires { ⌜ (at ≤ length (now out)) × (32768 ≤ length (now program)) × (k < 1024) ⌝ }
     ensures { λ r. ⌜ Put (now (out .entry)) at (singleText (itemTold (now (program .entry)) k)) (now (out .exit)) r ⌝ }
 {
-    let e = 16384 + 16 * k;
-    let word = lent::get_u64(program, e + 8);
+    let e = opc::PROGRAM_POOL + opc::ENTRY_SIZE * k;
+    let word = lent::get_u64(program, e + opc::ENTRY_NUMBER);
     text::put_single(out, at, sifv::single(lent::wide(program[e]), word))
 }
 
@@ -187,7 +187,14 @@ fn put_params(out: &mut [u8], at: usize, program: &[u8], first: usize, n: usize)
     let mut p = at;
     let mut i = 0;
     while i < n {
-        p = text::put_field(out, p, lent::get_u64(program, 16384 + 16 * (first + i) + 8));
+        p = text::put_field(
+            out,
+            p,
+            lent::get_u64(
+                program,
+                opc::PROGRAM_POOL + opc::ENTRY_SIZE * (first + i) + opc::ENTRY_NUMBER,
+            ),
+        );
         i += 1;
     }
     p
@@ -292,7 +299,13 @@ fn put_table(out: &mut [u8], at: usize, program: &[u8], name: &[u8], base: usize
     let mut p = at;
     let mut i = 0;
     while i < n {
-        p = put_entry(out, p, name, i, lent::get_u16(program, base + i * 2));
+        p = put_entry(
+            out,
+            p,
+            name,
+            i,
+            lent::get_u16(program, base + i * tables::INDEX_SIZE),
+        );
         i += 1;
     }
     p
@@ -315,6 +328,20 @@ pub fn put_program(out: &mut [u8], at: usize, program: &[u8]) -> usize
 {
     let p = put_start(out, at, program::start_of(program));
     let q = put_code(out, p, program, program::count_of(program));
-    let s = put_table(out, q, program, b"label", 32768, tables::LABELS);
-    put_table(out, s, program, b"fn", 34816, 64)
+    let s = put_table(
+        out,
+        q,
+        program,
+        b"label",
+        tables::PROGRAM_LABELS,
+        tables::LABELS,
+    );
+    put_table(
+        out,
+        s,
+        program,
+        b"fn",
+        tables::PROGRAM_FUNCTIONS,
+        lent::TEXTS,
+    )
 }

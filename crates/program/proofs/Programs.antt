@@ -24,7 +24,7 @@ use Rattle.program.specs.inner.Marked.{labelEntry, functionEntry, sameTa
 use Rattle.program.proofs.Records.{is-when, is-with, is-guard, is-instr, instr-all}
 use Rattle.program.proofs.Stored.{Spelt, labels-same, functions-same}
 use Rattle.lent.specs.Lists.{when, with}
-use Rattle.program.specs.inner.Held.{isSome}
+use Rattle.lent.specs.Lists.{isSome}
 use Rattle.opc.specs.inner.Fetch.{recordAt}
 
 -- ---- how many instructions are read

@@ -25,7 +25,7 @@ use Rattle.opc.specs.laws.RecordRange.{AllSome, when-all, guard-all, with-all, 
 use Rattle.tables.specs.Tables.{declares}
 use Rattle.records.specs.inner.Fits.{allFrom, limitTable, noKind, limitsOf, operandsFit, kindFits, wordFits, singleMost, literalFits, fitsAs, recordFits, entryFits, entryOk, entriesFit, pooledAs, takenAs, pooled, taken}
 use Rattle.lent.specs.Lists.{when, with, onlyIf}
-use Rattle.program.specs.inner.Held.{isSome}
+use Rattle.lent.specs.Lists.{isSome}
 
 -- ---- whether there is a result
 

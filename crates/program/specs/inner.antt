@@ -1,3 +1,2 @@
 -- Definitions that only contracts inside the engine cite.
-pub mod Held
 pub mod Marked

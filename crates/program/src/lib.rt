@@ -10,14 +10,14 @@ ghost use Rattle.tables.specs.Tables.{Program};
 ghost use Rattle.tables.specs.ProgramBytes.{decodeProgram};
 ghost use Rattle.records.specs.inner.Fits.{allFrom, recordOk};
 ghost use Rattle.program.specs.inner.Marked.{marked, lblOf, enters, labelEntry, nameOf, isFn, functionEntry, sameTable};
-ghost use Rattle.program.specs.inner.Held.{isSome};
+ghost use Rattle.lent.specs.Lists.{isSome};
 
 // The label of record i.
 fn label(program: &[u8], i: usize) -> u64
     requires { ⌜ (40960 ≤ length (now program)) × (i < 1024) ⌝ }
     ensures { λ r. ⌜ r ≡ lblOf (now (program .entry)) i ⌝ }
 {
-    lent::get_u16(program, 16 * i + 2)
+    lent::get_u16(program, opc::RECORD_SIZE * i + opc::RECORD_LABEL)
 }
 
 // The entry k of a table, while it is made, goes to index i, where it is new. An index is kept with
@@ -55,8 +55,13 @@ fn fill_functions(program: &[u8], n: usize, t: &mut [u16])
 {
     let mut i = 0;
     while i < n {
-        let at = 16 * i;
-        mark(t, program[at] == 16, program[at + 4] as usize, i);
+        let at = opc::RECORD_SIZE * i;
+        mark(
+            t,
+            program[at] == 16,
+            program[at + opc::RECORD_A] as usize,
+            i,
+        );
         i += 1;
     }
 }
@@ -85,7 +90,7 @@ fn same_table(program: &[u8], at: usize, t: &[u16]) -> bool
     let mut ok = true;
     let mut l = 0;
     while l < t.len() {
-        ok = ok & (turned(pair(program, at + 2 * l)) == t[l] - 1);
+        ok = ok & (turned(pair(program, at + tables::INDEX_SIZE * l)) == t[l] - 1);
         l += 1;
     }
     ok
@@ -95,18 +100,18 @@ fn labels_ok(program: &[u8], n: usize) -> bool
     requires { ⌜ (40960 ≤ length (now program)) × (n ≤ 1024) × (allFrom n 0 (recordOk (now program)) ≡ true) ⌝ }
     ensures { λ r. ⌜ r ≡ sameTable (now (program .entry)) 32768 1024 (labelEntry (now (program .entry)) n) ⌝ }
 {
-    let mut t = [1u16; 1024];
+    let mut t = [1u16; tables::LABELS];
     fill_labels(program, n, &mut t);
-    same_table(program, 32768, &t)
+    same_table(program, tables::PROGRAM_LABELS, &t)
 }
 
 fn functions_ok(program: &[u8], n: usize) -> bool
     requires { ⌜ (40960 ≤ length (now program)) × (n ≤ 1024) × (allFrom n 0 (recordOk (now program)) ≡ true) ⌝ }
     ensures { λ r. ⌜ r ≡ sameTable (now (program .entry)) 34816 64 (functionEntry (now (program .entry)) n) ⌝ }
 {
-    let mut t = [1u16; 64];
+    let mut t = [1u16; lent::TEXTS];
     fill_functions(program, n, &mut t);
-    same_table(program, 34816, &t)
+    same_table(program, tables::PROGRAM_FUNCTIONS, &t)
 }
 
 // How many instructions a program has, and where its code starts.
@@ -114,14 +119,14 @@ pub fn count_of(program: &[u8]) -> usize
     requires { ⌜ 40960 ≤ length (now program) ⌝ }
     ensures { λ r. ⌜ ((p : Program) → decodeProgram (now (program .entry)) ≡ some p → r ≡ length (p .code)) ⌝ }
 {
-    lent::get_u16(program, 34944) as usize
+    lent::get_u16(program, tables::PROGRAM_COUNT) as usize
 }
 
 pub fn start_of(program: &[u8]) -> usize
     requires { ⌜ 40960 ≤ length (now program) ⌝ }
     ensures { λ r. ⌜ ((p : Program) → decodeProgram (now (program .entry)) ≡ some p → r ≡ p .codeStart) ⌝ }
 {
-    lent::get_u16(program, 34946) as usize
+    lent::get_u16(program, tables::PROGRAM_START) as usize
 }
 
 // Whether the buffer holds a program. The tables are looked at where the records are in range, for
@@ -130,9 +135,9 @@ pub fn program_ok(program: &[u8]) -> bool
     requires { ⌜ 40960 ≤ length (now program) ⌝ }
     ensures { λ r. ⌜ r ≡ isSome (decodeProgram (now (program .entry))) ⌝ }
 {
-    let n = lent::get_u16(program, 34944) as usize;
-    let start = lent::get_u16(program, 34946) as usize;
-    if 1024 < n {
+    let n = lent::get_u16(program, tables::PROGRAM_COUNT) as usize;
+    let start = lent::get_u16(program, tables::PROGRAM_START) as usize;
+    if opc::INSTRUCTIONS < n {
         return false;
     }
     if n < start {

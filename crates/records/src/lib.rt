@@ -10,6 +10,9 @@ ghost use Rattle.opc.specs.inner.Fetch.{recordAt};
 ghost use Rattle.records.specs.inner.Fits.{allFrom, limitsOf, isLiteral, recordOk, isArray, entryOk, spanFits, entriesFit, pooled, taken, poolFits};
 ghost use Rattle.records.specs.inner.Lanes.{leValue, four, eight, limitWords, singleMask};
 
+// Past the pool: no entries fit from here on.
+const PAST: usize = opc::ENTRIES + 1;
+
 // Two, four, eight bytes as one number, the first the lowest: read at once.
 fn low2(program: &[u8], at: usize) -> u64
     requires { ⌜ at + 2 ≤ length (now program) ⌝ }
@@ -226,10 +229,10 @@ fn record_ok(program: &[u8], i: usize) -> bool
     requires { ⌜ (40960 ≤ length (now program)) × (i < 1024) ⌝ }
     ensures { λ r. ⌜ r ≡ recordOk (now (program .entry)) i ⌝ }
 {
-    let at = 16 * i;
+    let at = opc::RECORD_SIZE * i;
     let m = limits(program[at]);
     let h = eight_at(program, at);
-    let w = eight_at(program, at + 8);
+    let w = eight_at(program, at + opc::RECORD_NUMBER);
     let sum = std::num::wrapping_add_u64(h, m.add);
     let most = ((h & m.mask) == 0) & ((sum & m.mask) == 0);
     let fields = most & (m.add / 72057594037927936 <= h / 256 % 256);
@@ -255,9 +258,9 @@ fn entry_ok(program: &[u8], k: usize, least: u8, most: u8) -> bool
     requires { ⌜ (40960 ≤ length (now program)) × (k < 1024) ⌝ }
     ensures { λ r. ⌜ r ≡ entryOk least most (now (program .entry)) k ⌝ }
 {
-    let at = 16384 + 16 * k;
+    let at = opc::PROGRAM_POOL + opc::ENTRY_SIZE * k;
     let kind = program[at];
-    let number = (eight_at(program, at + 8) & single_mask(lent::wide(kind))) == 0;
+    let number = (eight_at(program, at + opc::ENTRY_NUMBER) & single_mask(lent::wide(kind))) == 0;
     (least <= kind) & ((kind <= most) & number)
 }
 
@@ -281,7 +284,7 @@ fn span_ok(most: usize, n: usize, start: u64, next: usize) -> bool
     requires { ⌜ (next ≤ 1025) × (n < 256) ⌝ }
     ensures { λ r. ⌜ r ≡ spanFits most n start next ⌝ }
 {
-    (n <= most) & ((start == next as u64) & (next + n <= 1024))
+    (n <= most) & ((start == next as u64) & (next + n <= opc::ENTRIES))
 }
 
 // The entries of record i, at most `most`, of kinds from lo to hi: where those of the next record
@@ -290,15 +293,20 @@ fn entries(program: &[u8], i: usize, most: usize, lo: u8, hi: u8, next: usize) -
     requires { ⌜ (40960 ≤ length (now program)) × (i < 1024) × (next ≤ 1025) ⌝ }
     ensures { λ r. ⌜ r ≡ cond (entriesFit most lo hi (recordAt (now (program .entry)) i) next (now (program .entry))) (next + recordAt (now (program .entry)) i .len) 1025 ⌝ }
 {
-    let at = 16 * i;
-    let n = program[at + 7] as usize;
-    if span_ok(most, n, lent::get_u64(program, at + 8), next) {
+    let at = opc::RECORD_SIZE * i;
+    let n = program[at + opc::RECORD_LENGTH] as usize;
+    if span_ok(
+        most,
+        n,
+        lent::get_u64(program, at + opc::RECORD_NUMBER),
+        next,
+    ) {
         if entries_ok(program, next, n, lo, hi) {
             return next + n;
         }
-        return 1025;
+        return PAST;
     }
-    1025
+    PAST
 }
 
 // The entries of record i, of any operation: an array's items, a function's parameters, or none.
@@ -306,14 +314,14 @@ fn own(program: &[u8], i: usize, next: usize) -> usize
     requires { ⌜ (40960 ≤ length (now program)) × (i < 1024) × (next ≤ 1025) ⌝ }
     ensures { λ r. ⌜ r ≡ cond (pooled (recordAt (now (program .entry)) i) next (now (program .entry))) (next + taken (recordAt (now (program .entry)) i)) 1025 ⌝ }
 {
-    let at = 16 * i;
+    let at = opc::RECORD_SIZE * i;
     let code = program[at];
-    let kind = program[at + 1];
+    let kind = program[at + opc::RECORD_KIND];
     if is_array(code, kind) {
-        return entries(program, i, 24, 1, 4, next);
+        return entries(program, i, lent::ARRAY_ITEMS, 1, 4, next);
     }
     if code == 16 {
-        return entries(program, i, 255, 2, 2, next);
+        return entries(program, i, opc::PARAMETERS, 2, 2, next);
     }
     next
 }
@@ -335,7 +343,7 @@ fn pooled(program: &[u8], i: usize, next: usize) -> usize
     requires { ⌜ (40960 ≤ length (now program)) × (i < 1024) × (next ≤ 1025) ⌝ }
     ensures { λ r. ⌜ r ≡ cond (pooled (recordAt (now (program .entry)) i) next (now (program .entry))) (next + taken (recordAt (now (program .entry)) i)) 1025 ⌝ }
 {
-    if may_pool(program[16 * i]) {
+    if may_pool(program[opc::RECORD_SIZE * i]) {
         return own(program, i, next);
     }
     next
@@ -352,5 +360,5 @@ pub fn pool_ok(program: &[u8], n: usize) -> bool
         next = pooled(program, i, next);
         i += 1;
     }
-    next <= 1024
+    next <= opc::ENTRIES
 }

@@ -6,16 +6,16 @@ use engine::Last;
 // The steps that a file's program is given.
 const STEPS: u64 = 100000;
 
-// The places of the counts: 0 done, 1 to 10 and 39 refused, 11 spent, 20 to 36 and 38 stopped; then records, steps, names held, runs in portions and checksums that agree.
-const RECORDS: usize = 40;
+// The places of the counts: 0 done, 1 to 10 and 39 refused, 11 spent, 20 to 36 and 38 stopped, and room for every other number of a byte; then records, steps, names held, runs in portions and checksums that agree.
+const RECORDS: usize = 256;
 
-const TAKEN: usize = 41;
+const TAKEN: usize = 257;
 
-const HELD: usize = 42;
+const HELD: usize = 258;
 
-const PORTIONS: usize = 43;
+const PORTIONS: usize = 259;
 
-const STORED: usize = 44;
+const STORED: usize = 260;
 
 fn count(counts: &mut [u64], at: usize, n: u64) {
     if at < counts.len() {
@@ -53,7 +53,7 @@ struct Reading {
 // The name of a text: its value goes into the checksum, and counts where it is held.
 fn name(state: &[u8], text: u64, before: Reading) -> Reading {
     let mut out = [0u8; 256];
-    let number = calls::read_name(state, text, &mut out);
+    let number = calls::read_call::read_name(state, text, &mut out);
     let sum = mix_bytes(mix(before.sum, number), &out);
     if out[0] == 0 {
         return Reading {
@@ -111,25 +111,40 @@ fn same_state(a: &[u8], b: &[u8]) -> bool {
     lent::same(a, 0, b, 0, n)
 }
 
+fn same_details(last: Last, report: &[u8]) -> bool
+    requires { ⌜ 48 ≤ length (now report) ⌝ }
+{
+    if last.a != lent::get_u64(report, 16) {
+        return false;
+    }
+    if last.b != lent::get_u64(report, 24) {
+        return false;
+    }
+    last.c == lent::get_u64(report, 32)
+}
+
 fn same_answer(last: Last, steps: u64, report: &[u8]) -> bool {
     if !last.given {
         return steps == 0;
     }
-    if report.len() < 2 {
+    if report.len() < 48 {
         return false;
     }
     if last.answer != report[0] {
         return false;
     }
-    last.number == report[1]
+    if last.number != report[1] {
+        return false;
+    }
+    same_details(last, report)
 }
 
-// Whether the steps in portions leave the state and the answer of one run.
+// Whether the steps in portions leave the state and the answer of one run, a stop's details with it.
 fn portions(program: &[u8], steps: u64, state: &[u8], report: &[u8]) -> bool {
     let mut list = [0u8; 112];
     in_portions(&mut list, steps);
     let mut own = [0u8; 65536];
-    calls::start(program, &mut own);
+    calls::start_call::start(program, &mut own);
     let last = engine::call_all(program, &mut own, &list);
     if !same_state(&own, state) {
         return false;
@@ -181,14 +196,14 @@ fn count_run(
 fn carry_out(program: &[u8], steps: u64, before: u64, stored: u64, counts: &mut [u64]) {
     let mut state = [0u8; 65536];
     let mut report = [0u8; 48];
-    let number = calls::start(program, &mut state);
+    let number = calls::start_call::start(program, &mut state);
     let sum = mix(before, number);
     if number != 0 {
         count(counts, number as usize, 1);
         count_if(counts, STORED, sum == stored);
         return;
     }
-    let ran = calls::run(program, &mut state, steps, &mut report);
+    let ran = calls::run_call::run(program, &mut state, steps, &mut report);
     count_run(
         program,
         steps,
@@ -378,7 +393,7 @@ fn answer_line(counts: &[u64], at: usize) {
 
 fn answer_lines(counts: &[u64]) {
     let mut at = 0;
-    while at < 40 {
+    while at < RECORDS {
         answer_line(counts, at);
         at += 1;
     }
@@ -399,7 +414,7 @@ fn all(path: &[u8], programs: bool, what: &[u8]) {
         os::fail(path);
         return;
     }
-    let mut counts = [0u64; 48];
+    let mut counts = [0u64; 261];
     records(fd, programs, &mut counts);
     libc::close(fd);
     say(what, &counts);
@@ -407,7 +422,7 @@ fn all(path: &[u8], programs: bool, what: &[u8]) {
 
 // The next file alone, by its name.
 fn case(fd: i32, what: &[u8]) {
-    let mut counts = [0u64; 48];
+    let mut counts = [0u64; 261];
     record(fd, false, &mut counts);
     io::write_all(1, what);
     io::write_all(1, b", ");

@@ -4,10 +4,10 @@ ghost use mathlib.Core.List.{_++_};
 ghost use Prim.Native.Nat.{_≤_};
 ghost use lib.ListN.{length, drop};
 ghost use Rattle.lent.specs.Bytes.{beBytes};
-ghost use Rattle.report.specs.Report.{signedBytes};
+ghost use Rattle.vm.specs.Report.{signedBytes};
 ghost use Rattle.report.specs.inner.Fields.{lineAt, reportFields, reportOf};
+use execute::Answer;
 use execute::RuntimeErr;
-use run::Answer;
 
 // A stop's line, in two's complement.
 fn line(start: u64, pos: u64) -> u64
@@ -22,13 +22,13 @@ fn put_fields(out: &mut [u8], answer: u64, line: u64, e: RuntimeErr, took: u64)
     ensures { λ _. ⌜ now (out .exit) ≡ reportFields answer (beBytes 8 line) e took ++ drop 48 (now (out .entry)) ⌝ }
 {
     lent::put_u8(out, 0, answer);
-    lent::put_u8(out, 1, e.number);
+    lent::put_u8(out, vm::REPORT_STOP, e.number);
     lent::zero(out, 2, 6);
-    lent::put_u64(out, 8, line);
-    lent::put_u64(out, 16, e.a);
-    lent::put_u64(out, 24, e.b);
-    lent::put_u64(out, 32, e.c);
-    lent::put_u64(out, 40, took);
+    lent::put_u64(out, vm::REPORT_LINE, line);
+    lent::put_u64(out, vm::REPORT_DETAILS, e.a);
+    lent::put_u64(out, vm::REPORT_DETAIL_2, e.b);
+    lent::put_u64(out, vm::REPORT_DETAIL_3, e.c);
+    lent::put_u64(out, vm::REPORT_STEPS, took);
 }
 
 fn no_stop() -> RuntimeErr

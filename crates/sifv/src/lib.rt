@@ -17,6 +17,46 @@ ghost use Rattle.sifv.specs.inner.StoredForm.{storedOf};
 ghost use Rattle.lent.specs.Lists.{zeros, upto};
 ghost use Rattle.sifv.specs.inner.Forms.{Formed, lenIn};
 
+// A value slot: specs/Slot.antt. Its kind is byte 0.
+pub const VALUE_SIZE: usize = 256;
+
+pub const VALUE_LENGTH: usize = 1;
+
+pub const VALUE_NUMBER: usize = 8;
+
+pub const VALUE_ITEM_KINDS: usize = 16;
+
+pub const VALUE_ITEMS: usize = 40;
+
+pub const VALUE_KEYS: usize = 232;
+
+// A single value's number, an item's too.
+pub const NUMBER_SIZE: usize = 8;
+
+// The last byte of a slot's number.
+const TRUTH: usize = VALUE_NUMBER + NUMBER_SIZE - 1;
+
+// Bytes from one place of a slot to another: the zeros behind the length, up to the number and to the items; what
+// only arrays and tables have; the items' numbers; the keys and the zeros behind them.
+const LENGTH_REST_SIZE: usize = VALUE_NUMBER - VALUE_LENGTH;
+
+const HEAD_REST: usize = VALUE_LENGTH + 1;
+
+const HEAD_REST_SIZE: usize = VALUE_ITEM_KINDS - HEAD_REST;
+
+const CONTENTS_SIZE: usize = VALUE_SIZE - VALUE_ITEM_KINDS;
+
+const ITEMS_SIZE: usize = VALUE_KEYS - VALUE_ITEMS;
+
+const KEYS_SIZE: usize = VALUE_SIZE - VALUE_KEYS;
+
+// The limits as numbers.
+const TEXTS: u64 = lent::TEXTS as u64;
+
+const ARRAY_ITEMS: u64 = lent::ARRAY_ITEMS as u64;
+
+const TABLE_ITEMS: u64 = lent::TABLE_ITEMS as u64;
+
 // A value as the program holds it; the contents of an array and a table stay in their slot.
 // Empty: an empty register, or a name that is not set.
 pub enum SifVal {
@@ -109,14 +149,14 @@ pub fn get(s: &[u8], at: usize) -> SifVal
         return SifVal::Empty;
     }
     if kind <= 4 {
-        return single(kind, lent::get_u64(s, at + 8));
+        return single(kind, lent::get_u64(s, at + VALUE_NUMBER));
     }
-    let n = lent::wide(s[at + 1]);
+    let n = lent::wide(s[at + VALUE_LENGTH]);
     if kind == 5 {
-        return SifVal::Arr(least(n, 24));
+        return SifVal::Arr(least(n, ARRAY_ITEMS));
     }
     if kind == 6 {
-        return SifVal::Tab(least(n, 16));
+        return SifVal::Tab(least(n, TABLE_ITEMS));
     }
     SifVal::Empty
 }
@@ -126,8 +166,8 @@ pub fn get_item(s: &[u8], at: usize, i: usize) -> SifVal
     requires { ⌜ (at + 256 ≤ length (now s)) × (i < 24) ⌝ }
     ensures { λ r. ⌜ r ≡ shown (slotItem (part (now (s .entry)) at 256) i) ⌝ }
 {
-    let kind = lent::wide(s[at + (16 + i)]);
-    single(kind, lent::get_u64(s, at + (40 + i * 8)))
+    let kind = lent::wide(s[at + (VALUE_ITEM_KINDS + i)]);
+    single(kind, lent::get_u64(s, at + (VALUE_ITEMS + i * NUMBER_SIZE)))
 }
 
 // The kind of a single value.
@@ -150,9 +190,9 @@ pub fn put_item(s: &mut [u8], at: usize, i: usize, v: SifVal)
     requires { ⌜ (at + 256 ≤ length (now s)) × (i < 24) ⌝ }
     ensures { λ _. ⌜ (now (s .exit) ≡ splice (now (s .entry)) at (setItem (part (now (s .entry)) at 256) i (singleSeen v))) × ReadBack (singleSeen v) ⌝ }
 {
-    let k = at + (16 + i);
+    let k = at + (VALUE_ITEM_KINDS + i);
     s[k] = item_kind(v);
-    lent::put_u64(s, at + (40 + i * 8), word_of(v));
+    lent::put_u64(s, at + (VALUE_ITEMS + i * NUMBER_SIZE), word_of(v));
 }
 
 // ---- whether a slot is the one form of a value that may be stored. No loop has a branch or is left early.
@@ -164,7 +204,7 @@ fn word_bound(kind: u64) -> u64
     match kind % 8 {
         0 => 0,
         1 => 0xffff_ffff_ffff_ffff,
-        2 => 64,
+        2 => TEXTS,
         3 => 2,
         4 => 1,
         5 => 0,
@@ -190,8 +230,8 @@ fn each_ok(s: &[u8], at: usize, n: usize) -> bool
     while i < n {
         ok = ok
             & item_ok(
-                lent::wide(s[at + (16 + i)]),
-                lent::get_u64(s, at + (40 + i * 8)),
+                lent::wide(s[at + (VALUE_ITEM_KINDS + i)]),
+                lent::get_u64(s, at + (VALUE_ITEMS + i * NUMBER_SIZE)),
             );
         i += 1;
     }
@@ -206,7 +246,7 @@ fn numbers(s: &[u8], at: usize, n: usize) -> bool
     let mut ok = true;
     let mut i = 0;
     while i < n {
-        ok = ok & (s[at + (16 + i)] == 1);
+        ok = ok & (s[at + (VALUE_ITEM_KINDS + i)] == 1);
         i += 1;
     }
     ok
@@ -220,7 +260,7 @@ fn moderate(s: &[u8], at: usize, n: usize) -> bool
     let mut ok = true;
     let mut i = 0;
     while i < n {
-        ok = ok & (s[at + (40 + i * 8)] % 128 < 127);
+        ok = ok & (s[at + (VALUE_ITEMS + i * NUMBER_SIZE)] % 128 < 127);
         i += 1;
     }
     ok
@@ -251,7 +291,7 @@ fn items_ok(s: &[u8], at: usize, n: usize) -> bool
 fn key_ok(ok: bool, next: u64, k: u64) -> bool
     ensures { λ r. ⌜ r ≡ (ok && (leb next k && ltb k 64)) ⌝ }
 {
-    ok & ((next <= k) & (k < 64))
+    ok & ((next <= k) & (k < TEXTS))
 }
 
 // Whether the first n keys of the slot at byte at ascend and are below 64.
@@ -263,7 +303,7 @@ fn keys_ok(s: &[u8], at: usize, n: usize) -> bool
     let mut next = 0;
     let mut i = 0;
     while i < n {
-        let k = lent::wide(s[at + 232 + i]);
+        let k = lent::wide(s[at + VALUE_KEYS + i]);
         ok = key_ok(ok, next, k);
         next = k + 1;
         i += 1;
@@ -276,9 +316,13 @@ fn box_ok(s: &[u8], at: usize, n: usize) -> bool
     requires { ⌜ (at + 256 ≤ length (now s)) × (n ≤ 24) ⌝ }
     ensures { λ r. ⌜ r ≡ boxOk n (part (now (s .entry)) at 256) ⌝ }
 {
-    let kinds = lent::all_zero(s, at + (16 + n), 24 - n);
-    let words = lent::all_zero(s, at + (40 + n * 8), 192 - n * 8);
-    lent::all_zero(s, at + 2, 14) & (items_ok(s, at, n) & (kinds & words))
+    let kinds = lent::all_zero(s, at + (VALUE_ITEM_KINDS + n), lent::ARRAY_ITEMS - n);
+    let words = lent::all_zero(
+        s,
+        at + (VALUE_ITEMS + n * NUMBER_SIZE),
+        ITEMS_SIZE - n * NUMBER_SIZE,
+    );
+    lent::all_zero(s, at + HEAD_REST, HEAD_REST_SIZE) & (items_ok(s, at, n) & (kinds & words))
 }
 
 // A slot of a single value.
@@ -286,8 +330,10 @@ fn one_ok(s: &[u8], at: usize) -> bool
     requires { ⌜ at + 256 ≤ length (now s) ⌝ }
     ensures { λ r. ⌜ r ≡ oneOk (part (now (s .entry)) at 256) ⌝ }
 {
-    let ok = item_ok(lent::wide(s[at]), lent::get_u64(s, at + 8));
-    ok & (lent::all_zero(s, at + 1, 7) & lent::all_zero(s, at + 16, 240))
+    let ok = item_ok(lent::wide(s[at]), lent::get_u64(s, at + VALUE_NUMBER));
+    ok
+        & (lent::all_zero(s, at + VALUE_LENGTH, LENGTH_REST_SIZE)
+            & lent::all_zero(s, at + VALUE_ITEM_KINDS, CONTENTS_SIZE))
 }
 
 // A slot of an array.
@@ -295,11 +341,11 @@ fn arr_ok(s: &[u8], at: usize) -> bool
     requires { ⌜ (at + 256 ≤ length (now s)) × (getD (now s) at 0 ≡ 5) ⌝ }
     ensures { λ r. ⌜ r ≡ arrOk (part (now (s .entry)) at 256) ⌝ }
 {
-    let n = lent::wide(s[at + 1]) as usize;
-    if 24 < n {
+    let n = lent::wide(s[at + VALUE_LENGTH]) as usize;
+    if lent::ARRAY_ITEMS < n {
         return false;
     }
-    box_ok(s, at, n) & lent::all_zero(s, at + 232, 24)
+    box_ok(s, at, n) & lent::all_zero(s, at + VALUE_KEYS, KEYS_SIZE)
 }
 
 // A slot of a table.
@@ -307,11 +353,11 @@ fn tab_ok(s: &[u8], at: usize) -> bool
     requires { ⌜ (at + 256 ≤ length (now s)) × (getD (now s) at 0 ≡ 6) ⌝ }
     ensures { λ r. ⌜ r ≡ tabOk (part (now (s .entry)) at 256) ⌝ }
 {
-    let n = lent::wide(s[at + 1]) as usize;
-    if 16 < n {
+    let n = lent::wide(s[at + VALUE_LENGTH]) as usize;
+    if lent::TABLE_ITEMS < n {
         return false;
     }
-    keys_ok(s, at, n) & (box_ok(s, at, n) & lent::all_zero(s, at + (232 + n), 24 - n))
+    keys_ok(s, at, n) & (box_ok(s, at, n) & lent::all_zero(s, at + (VALUE_KEYS + n), KEYS_SIZE - n))
 }
 
 // Whether the slot at byte at is the one form of a value that may be stored.
@@ -321,7 +367,7 @@ pub fn slot_ok(s: &[u8], at: usize) -> bool
 {
     let kind = lent::wide(s[at]);
     if kind == 0 {
-        return lent::all_zero(s, at, 256);
+        return lent::all_zero(s, at, VALUE_SIZE);
     }
     if kind <= 4 {
         return one_ok(s, at);
@@ -351,7 +397,7 @@ pub fn number_at(s: &[u8], at: usize) -> f64
     requires { ⌜ (at + 256 ≤ length (now s)) × Formed (part (now s) at 256) × (kindIn (seen (decodeSlot (part (now s) at 256))) ≡ 1) ⌝ }
     ensures { λ r. ⌜ decodeSlot (part (now (s .entry)) at 256) ≡ some (One (Num r)) ⌝ }
 {
-    numeric::from_stored(lent::get_u64(s, at + 8))
+    numeric::from_stored(lent::get_u64(s, at + VALUE_NUMBER))
 }
 
 // The yes/no in a slot of kind 3: its last byte.
@@ -359,7 +405,7 @@ pub fn truth_at(s: &[u8], at: usize) -> bool
     requires { ⌜ (at + 256 ≤ length (now s)) × Formed (part (now s) at 256) × (kindIn (seen (decodeSlot (part (now s) at 256))) ≡ 3) ⌝ }
     ensures { λ r. ⌜ decodeSlot (part (now (s .entry)) at 256) ≡ some (One (Bl r)) ⌝ }
 {
-    s[at + 15] == 1
+    s[at + TRUTH] == 1
 }
 
 // How many items or keys a slot has.
@@ -367,7 +413,7 @@ pub fn len_at(s: &[u8], at: usize) -> u64
     requires { ⌜ (at + 256 ≤ length (now s)) × Formed (part (now s) at 256) ⌝ }
     ensures { λ r. ⌜ r ≡ lenIn (seen (decodeSlot (part (now (s .entry)) at 256))) ⌝ }
 {
-    lent::wide(s[at + 1])
+    lent::wide(s[at + VALUE_LENGTH])
 }
 
 // A slot that has contents becomes empty; another stays.
@@ -376,7 +422,7 @@ fn clear(s: &mut [u8], at: usize)
     ensures { λ _. ⌜ now (s .exit) ≡ cond (leb 5 (getD (now (s .entry)) at 0)) (splice (now (s .entry)) at (zeros 256)) (now (s .entry)) ⌝ }
 {
     if 5 <= s[at] {
-        lent::zero(s, at, 256);
+        lent::zero(s, at, VALUE_SIZE);
         return;
     }
 }
@@ -431,8 +477,8 @@ pub fn item(s: &[u8], at: usize, i: usize) -> Stored
     ensures { λ r. ⌜ r ≡ storedOf (shown (slotItem (part (now (s .entry)) at 256) i)) ⌝ }
 {
     Stored {
-        kind: s[at + (16 + i)],
-        word: lent::get_u64(s, at + (40 + i * 8)),
+        kind: s[at + (VALUE_ITEM_KINDS + i)],
+        word: lent::get_u64(s, at + (VALUE_ITEMS + i * NUMBER_SIZE)),
     }
 }
 
@@ -442,7 +488,7 @@ pub fn put(s: &mut [u8], at: usize, x: Stored)
     ensures { λ _. ⌜ now (s .exit) ≡ splice (now (s .entry)) at (headBytes (x .kind) 0 (x .word) ++ zeros 240) ⌝ }
 {
     clear(s, at);
-    lent::put_u64(s, at + 8, x.word);
+    lent::put_u64(s, at + VALUE_NUMBER, x.word);
     s[at] = x.kind;
 }
 
@@ -460,9 +506,9 @@ fn move_whole(s: &mut [u8], from: usize, to: usize)
     ensures { λ _. ⌜ now (s .exit) ≡ splice (now (s .entry)) to (part (now (s .entry)) from 256) ⌝ }
 {
     let mut i = 0;
-    while i < 256 {
+    while i < VALUE_SIZE {
         lent::move_u64(s, from + i, to + i);
-        i += 8;
+        i += NUMBER_SIZE;
     }
 }
 
@@ -476,7 +522,7 @@ pub fn move_to(s: &mut [u8], from: usize, to: usize)
         return;
     }
     clear(s, to);
-    lent::move_u64(s, from + 8, to + 8);
+    lent::move_u64(s, from + VALUE_NUMBER, to + VALUE_NUMBER);
     s[to] = s[from];
 }
 
@@ -485,6 +531,6 @@ pub fn store_item(s: &mut [u8], at: usize, i: usize, from: usize)
     requires { ⌜ (at + 256 ≤ length (now s)) × (from + 256 ≤ length (now s)) × (from % 256 ≡ at % 256) × (i < 24) × Formed (part (now s) from 256) × (0 < kindIn (seen (decodeSlot (part (now s) from 256)))) × (kindIn (seen (decodeSlot (part (now s) from 256))) ≤ 4) ⌝ }
     ensures { λ _. ⌜ now (s .exit) ≡ splice (now (s .entry)) at (setItem (part (now (s .entry)) at 256) i (singleSeen (seen (decodeSlot (part (now (s .entry)) from 256))))) ⌝ }
 {
-    lent::move_u64(s, from + 8, at + (40 + i * 8));
-    s[at + (16 + i)] = s[from];
+    lent::move_u64(s, from + VALUE_NUMBER, at + (VALUE_ITEMS + i * NUMBER_SIZE));
+    s[at + (VALUE_ITEM_KINDS + i)] = s[from];
 }

@@ -10,6 +10,13 @@ ghost use Rattle.sifv.specs.Slot.{encodeSlot, decodeSlot};
 ghost use Rattle.sifv.specs.inner.Seen.{seen, singleSeen, kindIn, entriesIn};
 ghost use Rattle.sifv.specs.inner.Forms.{Formed, lenIn, place, keyThere, opened};
 
+// Where the second entry of a table is.
+const NEXT_ITEM: usize = crate::VALUE_ITEMS + crate::NUMBER_SIZE;
+
+const NEXT_KIND: usize = crate::VALUE_ITEM_KINDS + 1;
+
+const NEXT_KEY: usize = crate::VALUE_KEYS + 1;
+
 // The place of a key among the first n: that of the first key that is not below it.
 pub fn key_place(s: &[u8], at: usize, n: usize, key: u64) -> usize
     requires { ⌜ (at + 256 ≤ length (now s)) × (n ≤ 16) ⌝ }
@@ -17,7 +24,7 @@ pub fn key_place(s: &[u8], at: usize, n: usize, key: u64) -> usize
 {
     let mut i = 0;
     while i < n {
-        if key <= lent::wide(s[at + (232 + i)]) {
+        if key <= lent::wide(s[at + (crate::VALUE_KEYS + i)]) {
             return i;
         }
         i += 1;
@@ -33,7 +40,7 @@ pub fn has_key(s: &[u8], at: usize, n: usize, i: usize, key: u64) -> bool
     if n <= i {
         return false;
     }
-    key == lent::wide(s[at + (232 + i)])
+    key == lent::wide(s[at + (crate::VALUE_KEYS + i)])
 }
 
 // The entries from i on, of n, are moved up by one.
@@ -44,9 +51,13 @@ fn open_entry(s: &mut [u8], at: usize, i: usize, n: usize)
     let mut j = n;
     while i < j {
         j -= 1;
-        lent::move_u64(s, at + (40 + j * 8), at + (48 + j * 8));
-        s[at + (17 + j)] = s[at + (16 + j)];
-        s[at + (233 + j)] = s[at + (232 + j)];
+        lent::move_u64(
+            s,
+            at + (crate::VALUE_ITEMS + j * crate::NUMBER_SIZE),
+            at + (NEXT_ITEM + j * crate::NUMBER_SIZE),
+        );
+        s[at + (NEXT_KIND + j)] = s[at + (crate::VALUE_ITEM_KINDS + j)];
+        s[at + (NEXT_KEY + j)] = s[at + (crate::VALUE_KEYS + j)];
     }
 }
 
@@ -57,7 +68,7 @@ pub fn insert_new(s: &mut [u8], at: usize, n: usize, i: usize, key: u64, from: u
     ensures { λ _. ⌜ now (s .exit) ≡ splice (now (s .entry)) at (encodeSlot (some (Tab (insert (entriesIn n (part (now (s .entry)) at 256)) key (singleSeen (seen (decodeSlot (part (now (s .entry)) from 256)))))))) ⌝ }
 {
     open_entry(s, at, i, n);
-    s[at + (232 + i)] = lent::low(key);
+    s[at + (crate::VALUE_KEYS + i)] = lent::low(key);
     crate::store_item(s, at, i, from);
-    s[at + 1] = lent::low((n + 1) as u64);
+    s[at + crate::VALUE_LENGTH] = lent::low((n + 1) as u64);
 }

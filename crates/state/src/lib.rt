@@ -8,32 +8,11 @@ ghost use Rattle.tables.specs.ProgramBytes.{decodeProgram};
 ghost use Rattle.vm.specs.Machine as Machine;
 ghost use Rattle.vm.specs.StateBytes.{encodeState, stateOk};
 ghost use Rattle.execute.specs.inner.View.{Holds, view};
-ghost use Rattle.run.specs.inner.Runs.{stateOf};
+ghost use Rattle.execute.specs.inner.Progress.{stateOf};
 ghost use Rattle.state.specs.inner.Fields.{locAt, progressAt, kindBit, markOf, placeOk, frameOk, slotsOk, stackOk, framesOk, fnsOk, smallOk};
-ghost use Rattle.execute.specs.inner.ProgramView.{programIn};
+ghost use Rattle.tables.specs.ProgramBytes.{programIn};
 use execute::Loc;
-use run::Progress;
-
-// Bytes of the state's fields behind the value slots: docs/FORMATS.md, "State".
-const NAMES: usize = 24576;
-
-const STACK: usize = 40960;
-
-const CALLS: usize = 47104;
-
-const FNS: usize = 47200;
-
-const MARK: usize = 47328;
-
-const COUNT: usize = 47336;
-
-const POS: usize = 47344;
-
-const DEPTH: usize = 47346;
-
-const CALL_DEPTH: usize = 47347;
-
-const REST: usize = 47348;
+use execute::Progress;
 
 // Position and depths.
 fn loc_of(state: &[u8]) -> Loc
@@ -41,9 +20,9 @@ fn loc_of(state: &[u8]) -> Loc
     ensures { λ r. ⌜ r ≡ locAt (now (state .entry)) ⌝ }
 {
     Loc {
-        pos: lent::get_u16(state, POS) as usize,
-        depth: lent::get_u8(state, DEPTH) as usize,
-        calls: lent::get_u8(state, CALL_DEPTH) as usize,
+        pos: lent::get_u16(state, vm::STATE_POSITION) as usize,
+        depth: lent::get_u8(state, vm::STATE_STACK_DEPTH) as usize,
+        calls: lent::get_u8(state, vm::STATE_CALLS_DEPTH) as usize,
     }
 }
 
@@ -54,7 +33,7 @@ pub fn progress_of(state: &[u8]) -> Progress
 {
     Progress {
         loc: loc_of(state),
-        count: lent::get_u64(state, COUNT),
+        count: lent::get_u64(state, vm::STATE_COUNT),
     }
 }
 
@@ -74,10 +53,10 @@ fn mark_of(state: &[u8]) -> u64
     ensures { λ r. ⌜ r ≡ markOf (now (state .entry)) ⌝ }
 {
     let mut m: u64 = 0;
-    let mut x: usize = 64;
+    let mut x: usize = lent::TEXTS;
     while 0 < x {
         x -= 1;
-        m = 2 * m + held(state[NAMES + x * 256]);
+        m = 2 * m + held(state[vm::STATE_NAMES + x * sifv::VALUE_SIZE]);
     }
     m
 }
@@ -90,8 +69,8 @@ fn slots_ok(state: &[u8]) -> bool
 {
     let mut ok = true;
     let mut i = 0;
-    while i < 184 {
-        ok = ok & sifv::slot_ok(state, i * 256);
+    while i < vm::STATE_SLOTS {
+        ok = ok & sifv::slot_ok(state, i * sifv::VALUE_SIZE);
         i += 1;
     }
     ok
@@ -112,8 +91,8 @@ fn stack_ok(state: &[u8], depth: usize) -> bool
 {
     let mut ok = true;
     let mut i = 0;
-    while i < 24 {
-        ok = ok & place_ok(i < depth, state[STACK + i * 256]);
+    while i < vm::VALUE_STACK {
+        ok = ok & place_ok(i < depth, state[vm::STATE_STACK + i * sifv::VALUE_SIZE]);
         i += 1;
     }
     ok
@@ -134,8 +113,8 @@ fn frames_ok(state: &[u8], calls: usize, n: u64) -> bool
 {
     let mut ok = true;
     let mut i = 0;
-    while i < 24 {
-        let at = CALLS + i * 4;
+    while i < vm::CALL_STACK {
+        let at = vm::STATE_CALLS + i * vm::FRAME_SIZE;
         ok = ok
             & (frame_ok(i < calls, lent::get_u16(state, at), n)
                 & (lent::get_u16(state, at + 2) == 0));
@@ -150,8 +129,8 @@ fn fns_ok(state: &[u8], n: u64) -> bool
 {
     let mut ok = true;
     let mut x = 0;
-    while x < 64 {
-        ok = ok & (lent::get_u16(state, FNS + x * 2) <= n);
+    while x < lent::TEXTS {
+        ok = ok & (lent::get_u16(state, vm::STATE_FUNCTIONS + x * tables::INDEX_SIZE) <= n);
         x += 1;
     }
     ok
@@ -163,8 +142,10 @@ fn small_ok(state: &[u8], n: u64) -> bool
     ensures { λ r. ⌜ r ≡ smallOk n (now (state .entry)) ⌝ }
 {
     let loc = loc_of(state);
-    (loc.depth <= 24)
-        & ((loc.calls <= 24) & ((lent::get_u16(state, POS) <= n) & lent::all_zero(state, REST, 12)))
+    (loc.depth <= vm::VALUE_STACK)
+        & ((loc.calls <= vm::CALL_STACK)
+            & ((lent::get_u16(state, vm::STATE_POSITION) <= n)
+                & lent::all_zero(state, vm::STATE_REST, 12)))
 }
 
 // Whether the bytes are an accepted state. Every field is looked at.
@@ -174,7 +155,7 @@ pub fn state_ok(state: &[u8], n: u64) -> bool
 {
     let loc = loc_of(state);
     let stacks = stack_ok(state, loc.depth) & frames_ok(state, loc.calls, n);
-    let tables = fns_ok(state, n) & (mark_of(state) == lent::get_u64(state, MARK));
+    let tables = fns_ok(state, n) & (mark_of(state) == lent::get_u64(state, vm::STATE_MARK));
     small_ok(state, n) & (stacks & (tables & slots_ok(state)))
 }
 
@@ -186,11 +167,11 @@ pub fn write_back(state: &mut [u8], p: Progress)
     ensures { λ _. ⌜ now (state .exit) ≡ encodeState (stateOf (now (state .entry)) p) ++ drop 47360 (now (state .entry)) ⌝ }
 {
     let loc = p.loc;
-    lent::put_u64(state, MARK, mark_of(state));
-    lent::put_u64(state, COUNT, p.count);
-    lent::put_u16(state, POS, loc.pos as u64);
-    lent::put_u8(state, DEPTH, loc.depth as u64);
-    lent::put_u8(state, CALL_DEPTH, loc.calls as u64);
+    lent::put_u64(state, vm::STATE_MARK, mark_of(state));
+    lent::put_u64(state, vm::STATE_COUNT, p.count);
+    lent::put_u16(state, vm::STATE_POSITION, loc.pos as u64);
+    lent::put_u8(state, vm::STATE_STACK_DEPTH, loc.depth as u64);
+    lent::put_u8(state, vm::STATE_CALLS_DEPTH, loc.calls as u64);
 }
 
 // ---- at the start
@@ -200,7 +181,15 @@ pub fn start(program: &[u8], state: &mut [u8])
     requires { ⌜ (40960 ≤ length (now program)) × (47360 ≤ length (now state)) × (decodeProgram (now program) ≡ some (programIn (now program))) ⌝ }
     ensures { λ _. ⌜ now (state .exit) ≡ encodeState (Machine.started (programIn (now (program .entry)))) ++ drop 47360 (now (state .entry)) ⌝ }
 {
-    lent::clear(state, 47360);
-    lent::copy(state, FNS, &program[34816..34944]);
-    lent::put_u16(state, POS, lent::get_u16(program, 34946));
+    lent::clear(state, vm::STATE_USED);
+    lent::copy(
+        state,
+        vm::STATE_FUNCTIONS,
+        &program[tables::PROGRAM_FUNCTIONS..tables::PROGRAM_COUNT],
+    );
+    lent::put_u16(
+        state,
+        vm::STATE_POSITION,
+        lent::get_u16(program, tables::PROGRAM_START),
+    );
 }

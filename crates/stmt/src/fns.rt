@@ -8,7 +8,7 @@ ghost use Rattle.lent.specs.Bytes.{splice};
 ghost use Rattle.opc.specs.Op.{Fn, Str, FnStackPop, instr};
 ghost use Rattle.compiler.specs.Lower.{Place, Reg, push, lowerPops};
 ghost use Rattle.emit.specs.inner.Run.{afterEvents, kept, putInstr, Ready, Did};
-ghost use Rattle.emit.specs.inner.Made.{ReadsAt};
+ghost use Rattle.emit.specs.inner.Made.{Reads};
 ghost use Rattle.stmt.specs.inner.Parts.{PushesFn, Pops, FnHead, statements, paramItems};
 
 // The parameters as items of the pool, from entry k on.
@@ -30,7 +30,7 @@ fn keep_fn(keep: bool, lbl: u64, low: emit::Low, name: u8, names: &[u8], out: &m
     ensures { λ _. ⌜ now (out .exit) ≡ cond keep (putInstr (instr lbl (Fn name (now (names .entry)))) low (now (out .entry))) (now (out .entry)) ⌝ }
 {
     if keep {
-        param_items(names, low.items, out);
+        param_items(names, low.items as usize, out);
         let f = opc::Fields {
             code: 16,
             kind: 0,
@@ -41,7 +41,7 @@ fn keep_fn(keep: bool, lbl: u64, low: emit::Low, name: u8, names: &[u8], out: &m
             len: names.len() as u8,
             word: low.items as u64,
         };
-        opc::put_record(out, low.recs, f);
+        opc::put_record(out, low.recs as usize, f);
         return;
     }
 }
@@ -97,28 +97,32 @@ fn pops(names: &[u8], reg: u8, keep: bool, lbl: u64, low: emit::Low, out: &mut [
     ensures { λ r. ⌜ Pops keep (now (names .entry)) reg lbl low (now (out .entry)) r (now (out .exit)) ⌝ }
 {
     let mut q = low;
-    let mut i = 0;
-    while i < names.len() {
+    let mut more = names.len();
+    while 0 < more {
+        let i = names.len() - more;
         let r = lent::low(reg as u64 + i as u64);
         q = pop(r, names[i], keep, lbl, q, out);
-        i += 1;
+        more -= 1;
     }
     q
 }
 
 // Registers for the parameters, the function and its pops, up to its Block: to the declarations.
-pub fn fn_head(contents: &[u8], bodies: &[u8], p: emit::Done, out: &mut [u8]) -> emit::Done
-    requires { ⌜ ReadsAt (statements (p .lbl)) (now contents) (now bodies) p (now out) ⌝ }
-    requires { ⌜ getD (now contents) (p .cont) 0 ≡ 9 ⌝ }
-    ensures { λ r. ⌜ FnHead (now (contents .entry)) (now (bodies .entry)) p (now (out .entry)) r (now (out .exit)) ⌝ }
+pub fn fn_head(
+    contents: &[u8],
+    bodies: &[u8],
+    lbl: u64,
+    low: emit::Low,
+    out: &mut [u8],
+) -> emit::Done
+    requires { ⌜ Reads (statements lbl) (now contents) (now bodies) low (now out) ⌝ }
+    requires { ⌜ getD (now contents) 0 0 ≡ 9 ⌝ }
+    ensures { λ r. ⌜ FnHead (now (contents .entry)) (now (bodies .entry)) lbl low (now (out .entry)) r (now (out .exit)) ⌝ }
 {
-    let at = p.cont;
-    let b = p.body;
-    let count = contents[at + 1] as usize;
-    let end = b + count;
-    let keep = p.low.decls;
-    let low = nextregs(count - 1, p.low);
-    let f = push_fn(keep, p.lbl, low, bodies[b], &bodies[b + 1..end], out);
-    let q = pops(&bodies[b + 1..end], p.low.reg, keep, p.lbl, f, out);
-    emit::start(at + 2 * count, end, p.lbl, q)
+    let count = contents[1] as usize;
+    let keep = low.decls;
+    let q = nextregs(count - 1, low);
+    let f = push_fn(keep, lbl, q, bodies[0], &bodies[1..count], out);
+    let d = pops(&bodies[1..count], low.reg, keep, lbl, f, out);
+    emit::start(2 * count, count, lbl, d)
 }

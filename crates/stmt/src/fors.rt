@@ -2,7 +2,7 @@
 ghost use mathlib.Core.Path.{_≡_};
 ghost use Prim.Native.Nat.{_+_, _<_, _^_};
 ghost use Rattle.emit.specs.inner.Run.{Ready};
-ghost use Rattle.emit.specs.inner.Made.{ReadsAt, Goes};
+ghost use Rattle.emit.specs.inner.Made.{Reads, Front, ReadsAt, Goes};
 ghost use Rattle.stmt.specs.inner.Parts.{Emitted, forHead, forTail, sourceText, sources};
 
 // The name, which for a call is text 0, `fortmp`.
@@ -12,8 +12,29 @@ pub fn source_name(kind: u8, x: u8) -> u8
     if kind == 21 { x } else { 0 }
 }
 
-// A Name gives nothing; a call is stored in `fortmp`.
-pub fn source(
+// What stands at the front: a Name gives nothing; a call is stored in `fortmp`.
+fn source(
+    contents: &[u8],
+    bodies: &[u8],
+    keep: bool,
+    lbl: u64,
+    low: emit::Low,
+    out: &mut [u8],
+) -> emit::Done
+    requires { ⌜ Reads sources (now contents) (now bodies) low (now out) ⌝ }
+    ensures { λ r. ⌜ Front sources (now (contents .entry)) (now (bodies .entry)) keep lbl low (now (out .entry)) r (now (out .exit)) ⌝ }
+{
+    if contents[0] == 21 {
+        return emit::start(2, 1, lbl, low);
+    }
+    let a = expr::expr(contents, bodies, keep, lbl, low, out);
+    let reg = emit::prevreg(a.low);
+    let f = emit::fields_of(lbl, 11, 0, reg, 0, 0, 0);
+    emit::push_at(keep, a, f, out)
+}
+
+// What stands at the place that p has reached.
+pub fn source_at(
     contents: &[u8],
     bodies: &[u8],
     keep: bool,
@@ -23,14 +44,10 @@ pub fn source(
     requires { ⌜ ReadsAt sources (now contents) (now bodies) p (now out) ⌝ }
     ensures { λ r. ⌜ Goes sources (now (contents .entry)) (now (bodies .entry)) keep p (now (out .entry)) r (now (out .exit)) ⌝ }
 {
-    let at = p.cont;
-    if contents[at] == 21 {
-        return emit::pass(p, 2, 1);
-    }
-    let a = expr::expr_at(contents, bodies, keep, p, out);
-    let reg = emit::prevreg(a.low);
-    let f = emit::fields_of(p.lbl, 11, 0, reg, 0, 0, 0);
-    emit::push_at(keep, a, f, out)
+    let cont = p.cont;
+    let body = p.body;
+    let r = source(&contents[cont..], &bodies[body..], keep, p.lbl, p.low, out);
+    emit::moved(cont, body, r)
 }
 
 // Before the Block, the index in register r.

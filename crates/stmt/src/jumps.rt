@@ -1,12 +1,13 @@
 // Jumps whose targets are known later, and Nops (`update_op_at` of compiler.rs).
 ghost use mathlib.Core.Path.{_≡_};
-ghost use mathlib.Core.List.{[], _∷_};
-ghost use Prim.Native.Nat.{_+_, _≤_, _<_, _^_};
+ghost use mathlib.Core.Bool.{cond};
+ghost use mathlib.Core.List.{List, [], _∷_};
+ghost use Prim.Native.Nat.{ℕ, _+_, _≤_, _<_, _^_};
 ghost use lib.ListN.{length};
 ghost use Rattle.opc.specs.Op.{Jmpf, JmpCnd, Jmpa, Nop};
 ghost use Rattle.compiler.specs.Lower.{prev, push};
 ghost use Rattle.emit.specs.inner.Run.{Ready};
-ghost use Rattle.stmt.specs.inner.Parts.{Emitted, retarget, endLabel};
+ghost use Rattle.stmt.specs.inner.Parts.{Emitted, retarget, endLabel, lastWaiting, Waits, targets, written, nextArm};
 
 // The target of the jump that was pushed between a and b.
 pub fn update_op_at(a: emit::Low, b: emit::Low, lblidx: u64, out: &mut [u8])
@@ -14,7 +15,7 @@ pub fn update_op_at(a: emit::Low, b: emit::Low, lblidx: u64, out: &mut [u8])
     ensures { λ _. ⌜ now (out .exit) ≡ retarget a b lblidx (now (out .entry)) ⌝ }
 {
     if a.recs < b.recs {
-        lent::put_u64(out, 16 * a.recs + 8, lblidx);
+        lent::put_u64(out, 16 * (a.recs as usize) + 8, lblidx);
         return;
     }
 }
@@ -30,14 +31,50 @@ pub fn jump_false(keep: bool, p: emit::Done, out: &mut [u8]) -> emit::Done
     emit::newlbl(j)
 }
 
-// Behind a Block of an If: to the end, which is not known yet.
-pub fn jump_end(keep: bool, p: emit::Done, out: &mut [u8]) -> emit::Done
+// Behind a Block of an If: to the end, which is not known yet. Meanwhile its target is `last`.
+pub fn jump_end(last: u64, keep: bool, p: emit::Done, out: &mut [u8]) -> emit::Done
     requires { ⌜ Ready (p .low) (now out) × (p .lbl + 1 < 2 ^ 64) ⌝ }
-    ensures { λ r. ⌜ Emitted (λ w. push w (p .lbl) (Jmpa 0) ∷ []) (p .lbl + 1) keep p (now (out .entry)) r (now (out .exit)) ⌝ }
+    ensures { λ r. ⌜ Emitted (λ w. push w (p .lbl) (Jmpa last) ∷ []) (p .lbl + 1) keep p (now (out .entry)) r (now (out .exit)) ⌝ }
 {
-    let f = emit::fields_of(p.lbl, 13, 0, 0, 0, 0, 0);
+    let f = emit::fields_of(p.lbl, 13, 0, 0, 0, 0, last);
     let j = emit::push_at(keep, p, f, out);
     emit::newlbl(j)
+}
+
+// The last jump that waits, where the one that was just pushed left `low`.
+pub fn waiting(keep: bool, low: emit::Low, last: u64) -> u64
+    ensures { λ r. ⌜ r ≡ cond (written keep low) (low .recs) last ⌝ }
+{
+    if keep & (low.refused == 0) {
+        low.recs as u64
+    } else {
+        last
+    }
+}
+
+pub fn next_arm(more: u8, p: emit::Done) -> emit::Done
+    requires { ⌜ (p .cont + 2 < 2 ^ 64) × (p .body + 0 < 2 ^ 64) ⌝ }
+    ensures { λ r. ⌜ r ≡ nextArm more p ⌝ }
+{
+    if more == 0 {
+        return p;
+    }
+    emit::pass(p, 2, 0)
+}
+
+// The jumps that wait get their target, the last first.
+pub fn update_ends(last: u64, lblidx: u64, out: &mut [u8])
+    requires { ⌜ ((xs : List ℕ) × (last ≡ lastWaiting xs) × Waits xs (now out)) ⌝ }
+    requires { ⌜ 40960 ≤ length (now out) ⌝ }
+    ensures { λ _. ⌜ ((xs : List ℕ) → last ≡ lastWaiting xs → Waits xs (now (out .entry)) → now (out .exit) ≡ targets xs lblidx (now (out .entry))) ⌝ }
+{
+    let mut i = last;
+    while 0 < i {
+        let at = 16 * (i as usize) - 8;
+        let before = lent::get_u64(out, at);
+        lent::put_u64(out, at, lblidx);
+        i = before;
+    }
 }
 
 pub fn nop(keep: bool, p: emit::Done, out: &mut [u8]) -> emit::Done

@@ -15,42 +15,82 @@ ghost use Rattle.ast.specs.Limits.{numbersFit};
 ghost use Rattle.compiler.specs.Lower.{lowerTree};
 ghost use Rattle.compiler.specs.Within.{StmtsIn};
 ghost use Rattle.emit.specs.inner.Run.{Ready, Did};
-ghost use Rattle.emit.specs.inner.Made.{ReadsAt, Goes};
-ghost use Rattle.stmt.specs.inner.Parts.{statements, lists, bodies as blockBodies, arms, rests};
+ghost use Rattle.emit.specs.inner.Made.{Reads, Front, ReadsAt, Goes};
+ghost use Rattle.stmt.specs.inner.Parts.{statements, lists, bodies as blockBodies, heads};
 
-// One statement.
-fn block(contents: &[u8], bodies: &[u8], keep: bool, p: emit::Done, out: &mut [u8]) -> emit::Done
+// The statement at the front.
+fn block(
+    contents: &[u8],
+    bodies: &[u8],
+    keep: bool,
+    lbl: u64,
+    low: emit::Low,
+    out: &mut [u8],
+) -> emit::Done
+    requires { ⌜ Reads (statements lbl) (now contents) (now bodies) low (now out) ⌝ }
+    ensures { λ r. ⌜ Front (statements lbl) (now (contents .entry)) (now (bodies .entry)) keep lbl low (now (out .entry)) r (now (out .exit)) ⌝ }
+{
+    let kind = contents[0];
+    if kind == 2 {
+        return body(contents, bodies, keep, lbl, low, out);
+    }
+    if kind == 3 {
+        return ifstmt(contents, bodies, keep, lbl, low, out);
+    }
+    if kind == 5 {
+        return forstmt(contents, bodies, keep, lbl, low, out);
+    }
+    if kind == 6 {
+        return simple::ret(contents, bodies, keep, lbl, low, out);
+    }
+    if kind == 7 {
+        return simple::expr_stmt(contents, bodies, keep, lbl, low, out);
+    }
+    if kind == 8 {
+        return simple::vardecl(contents, bodies, keep, lbl, low, out);
+    }
+    fndecl(contents, bodies, lbl, low, out)
+}
+
+// The statement at the place that p has reached.
+fn block_at(contents: &[u8], bodies: &[u8], keep: bool, p: emit::Done, out: &mut [u8]) -> emit::Done
     requires { ⌜ ReadsAt (statements (p .lbl)) (now contents) (now bodies) p (now out) ⌝ }
     ensures { λ r. ⌜ Goes (statements (p .lbl)) (now (contents .entry)) (now (bodies .entry)) keep p (now (out .entry)) r (now (out .exit)) ⌝ }
 {
-    let at = p.cont;
-    let kind = contents[at];
-    if kind == 2 {
-        return blocks(
-            contents[at + 1],
-            contents,
-            bodies,
-            keep,
-            emit::pass(p, 2, 0),
-            out,
-        );
-    }
-    if kind == 3 {
-        return ifstmt(contents, bodies, keep, p, out);
-    }
-    if kind == 5 {
-        return forstmt(contents, bodies, keep, p, out);
-    }
-    if kind == 6 {
-        return simple::ret(contents, bodies, keep, p, out);
-    }
-    if kind == 7 {
-        return simple::expr_stmt(contents, bodies, keep, p, out);
-    }
-    if kind == 8 {
-        return simple::vardecl(contents, bodies, keep, p, out);
-    }
-    fndecl(contents, bodies, p, out)
+    let cont = p.cont;
+    let body = p.body;
+    let r = block(&contents[cont..], &bodies[body..], keep, p.lbl, p.low, out);
+    emit::moved(cont, body, r)
+}
+
+// The Block at the front.
+fn body(
+    contents: &[u8],
+    bodies: &[u8],
+    keep: bool,
+    lbl: u64,
+    low: emit::Low,
+    out: &mut [u8],
+) -> emit::Done
+    requires { ⌜ Reads (statements lbl) (now contents) (now bodies) low (now out) ⌝ }
+    requires { ⌜ getD (now contents) 0 0 ≡ 2 ⌝ }
+    ensures { λ r. ⌜ Front (statements lbl) (now (contents .entry)) (now (bodies .entry)) keep lbl low (now (out .entry)) r (now (out .exit)) ⌝ }
+{
+    let n = contents[1];
+    let p = emit::start(2, 0, lbl, low);
+    blocks(n, contents, bodies, keep, p, out)
+}
+
+// The Block at the place that p has reached.
+fn body_at(contents: &[u8], bodies: &[u8], keep: bool, p: emit::Done, out: &mut [u8]) -> emit::Done
+    requires { ⌜ ReadsAt (statements (p .lbl)) (now contents) (now bodies) p (now out) ⌝ }
+    requires { ⌜ getD (now contents) (p .cont) 0 ≡ 2 ⌝ }
+    ensures { λ r. ⌜ Goes (statements (p .lbl)) (now (contents .entry)) (now (bodies .entry)) keep p (now (out .entry)) r (now (out .exit)) ⌝ }
+{
+    let cont = p.cont;
+    let place = p.body;
+    let r = body(&contents[cont..], &bodies[place..], keep, p.lbl, p.low, out);
+    emit::moved(cont, place, r)
 }
 
 // A Block's n statements; none give a Nop.
@@ -86,107 +126,94 @@ fn stmts(
     let mut q = p;
     let mut more = n;
     while 0 < more {
-        q = block(contents, bodies, keep, q, out);
+        q = block_at(contents, bodies, keep, q, out);
         more -= 1;
     }
     q
 }
 
 // To the declarations, also from the code.
-fn fndecl(contents: &[u8], bodies: &[u8], p: emit::Done, out: &mut [u8]) -> emit::Done
-    requires { ⌜ ReadsAt (statements (p .lbl)) (now contents) (now bodies) p (now out) ⌝ }
-    requires { ⌜ getD (now contents) (p .cont) 0 ≡ 9 ⌝ }
-    ensures { λ r. ⌜ ((k : Bool) → Goes (statements (p .lbl)) (now (contents .entry)) (now (bodies .entry)) k p (now (out .entry)) r (now (out .exit))) ⌝ }
+fn fndecl(contents: &[u8], bodies: &[u8], lbl: u64, low: emit::Low, out: &mut [u8]) -> emit::Done
+    requires { ⌜ Reads (statements lbl) (now contents) (now bodies) low (now out) ⌝ }
+    requires { ⌜ getD (now contents) 0 0 ≡ 9 ⌝ }
+    ensures { λ r. ⌜ ((k : Bool) → Front (statements lbl) (now (contents .entry)) (now (bodies .entry)) k lbl low (now (out .entry)) r (now (out .exit))) ⌝ }
 {
-    let keep = p.low.decls;
-    let h = fns::fn_head(contents, bodies, p, out);
-    let d = block(contents, bodies, keep, h, out);
+    let keep = low.decls;
+    let h = fns::fn_head(contents, bodies, lbl, low, out);
+    let d = body_at(contents, bodies, keep, h, out);
     emit::newlbl(d)
 }
 
-fn ifstmt(contents: &[u8], bodies: &[u8], keep: bool, p: emit::Done, out: &mut [u8]) -> emit::Done
-    requires { ⌜ ReadsAt (statements (p .lbl)) (now contents) (now bodies) p (now out) ⌝ }
-    requires { ⌜ getD (now contents) (p .cont) 0 ≡ 3 ⌝ }
-    ensures { λ r. ⌜ Goes (statements (p .lbl)) (now (contents .entry)) (now (bodies .entry)) keep p (now (out .entry)) r (now (out .exit)) ⌝ }
+// Its arms one after the other: a jump to the end waits till the end's label is known, and holds meanwhile which one waits before it.
+fn ifstmt(
+    contents: &[u8],
+    bodies: &[u8],
+    keep: bool,
+    lbl: u64,
+    low: emit::Low,
+    out: &mut [u8],
+) -> emit::Done
+    requires { ⌜ Reads (statements lbl) (now contents) (now bodies) low (now out) ⌝ }
+    requires { ⌜ getD (now contents) 0 0 ≡ 3 ⌝ }
+    ensures { λ r. ⌜ Front (statements lbl) (now (contents .entry)) (now (bodies .entry)) keep lbl low (now (out .entry)) r (now (out .exit)) ⌝ }
 {
-    let at = p.cont;
-    let b = p.body;
-    let n = bodies[b];
-    let rest = contents[at + 1] - 2 - n;
-    arm(n, rest, contents, bodies, keep, emit::pass(p, 2, 1), out)
+    let n = bodies[0];
+    let rest = contents[1] - 2 - n;
+    let mut q = emit::start(2, 1, lbl, low);
+    let mut more = n + 1;
+    let mut last = 0u64;
+    while 0 < more {
+        let a = arm(last, contents, bodies, keep, q, out);
+        last = jumps::waiting(keep, a.low, last);
+        more -= 1;
+        q = jumps::next_arm(more, a);
+    }
+    let s = stmts(rest, contents, bodies, keep, q, out);
+    let e = jumps::if_end(rest, keep, s, out);
+    jumps::update_ends(last, e.lbl, out);
+    e
 }
 
-// A condition and a Block, then n Elifs and the else statements.
+// A condition and its Block; `last` is the jump before that waits for the end.
 fn arm(
-    n: u8,
-    rest: u8,
+    last: u64,
     contents: &[u8],
     bodies: &[u8],
     keep: bool,
     p: emit::Done,
     out: &mut [u8],
 ) -> emit::Done
-    requires { ⌜ ReadsAt (arms (p .lbl) n rest) (now contents) (now bodies) p (now out) ⌝ }
-    ensures { λ r. ⌜ Goes (arms (p .lbl) n rest) (now (contents .entry)) (now (bodies .entry)) keep p (now (out .entry)) r (now (out .exit)) ⌝ }
+    requires { ⌜ ReadsAt (heads (p .lbl) last) (now contents) (now bodies) p (now out) ⌝ }
+    ensures { λ r. ⌜ Goes (heads (p .lbl) last) (now (contents .entry)) (now (bodies .entry)) keep p (now (out .entry)) r (now (out .exit)) ⌝ }
 {
     let c = expr::expr_at(contents, bodies, keep, p, out);
     let j = jumps::jump_false(keep, c, out);
-    let b = block(contents, bodies, keep, j, out);
-    let e = jumps::jump_end(keep, b, out);
+    let b = body_at(contents, bodies, keep, j, out);
+    let e = jumps::jump_end(last, keep, b, out);
     jumps::update_op_at(c.low, j.low, e.lbl, out);
-    let k = elif(n, rest, contents, bodies, keep, e, out);
-    jumps::update_op_at(b.low, e.low, k.lbl, out);
-    k
+    e
 }
 
-fn elif(
-    n: u8,
-    rest: u8,
+fn forstmt(
     contents: &[u8],
     bodies: &[u8],
     keep: bool,
-    p: emit::Done,
+    lbl: u64,
+    low: emit::Low,
     out: &mut [u8],
 ) -> emit::Done
-    requires { ⌜ ReadsAt (rests (p .lbl) n rest) (now contents) (now bodies) p (now out) ⌝ }
-    ensures { λ r. ⌜ Goes (rests (p .lbl) n rest) (now (contents .entry)) (now (bodies .entry)) keep p (now (out .entry)) r (now (out .exit)) ⌝ }
+    requires { ⌜ Reads (statements lbl) (now contents) (now bodies) low (now out) ⌝ }
+    requires { ⌜ getD (now contents) 0 0 ≡ 5 ⌝ }
+    ensures { λ r. ⌜ Front (statements lbl) (now (contents .entry)) (now (bodies .entry)) keep lbl low (now (out .entry)) r (now (out .exit)) ⌝ }
 {
-    if n == 0 {
-        let b = stmts(rest, contents, bodies, keep, p, out);
-        return jumps::if_end(rest, keep, b, out);
-    }
-    arm(
-        n - 1,
-        rest,
-        contents,
-        bodies,
-        keep,
-        emit::pass(p, 2, 0),
-        out,
-    )
-}
-
-fn forstmt(contents: &[u8], bodies: &[u8], keep: bool, p: emit::Done, out: &mut [u8]) -> emit::Done
-    requires { ⌜ ReadsAt (statements (p .lbl)) (now contents) (now bodies) p (now out) ⌝ }
-    requires { ⌜ getD (now contents) (p .cont) 0 ≡ 5 ⌝ }
-    ensures { λ r. ⌜ Goes (statements (p .lbl)) (now (contents .entry)) (now (bodies .entry)) keep p (now (out .entry)) r (now (out .exit)) ⌝ }
-{
-    let at = p.cont;
-    let b = p.body;
-    let i = bodies[b];
-    let v = bodies[b + 1];
-    let r = p.low.reg;
-    let name = fors::source_name(contents[at + 2], bodies[b + 2]);
-    let low = emit::nextreg(p.low);
-    let s = fors::source(
-        contents,
-        bodies,
-        keep,
-        emit::start(at + 2, b + 2, p.lbl, low),
-        out,
-    );
+    let i = bodies[0];
+    let v = bodies[1];
+    let r = low.reg;
+    let name = fors::source_name(contents[2], bodies[2]);
+    let p = emit::start(2, 2, lbl, emit::nextreg(low));
+    let s = fors::source_at(contents, bodies, keep, p, out);
     let h = fors::for_head(i, v, name, r, keep, s, out);
-    let d = block(contents, bodies, keep, h, out);
+    let d = body_at(contents, bodies, keep, h, out);
     fors::for_tail(i, r, s.low.reg, h.lbl, keep, d, out)
 }
 

@@ -5,7 +5,7 @@ ghost use lib.ListN.{getD};
 ghost use Rattle.opc.specs.Op.{FnRet};
 ghost use Rattle.compiler.specs.Lower.{push};
 ghost use Rattle.emit.specs.inner.Run.{Ready};
-ghost use Rattle.emit.specs.inner.Made.{ReadsAt, Goes};
+ghost use Rattle.emit.specs.inner.Made.{Reads, Front};
 ghost use Rattle.stmt.specs.inner.Parts.{Emitted, statements};
 
 fn fn_ret(keep: bool, p: emit::Done, out: &mut [u8]) -> emit::Done
@@ -16,19 +16,25 @@ fn fn_ret(keep: bool, p: emit::Done, out: &mut [u8]) -> emit::Done
     emit::push_at(keep, p, f, out)
 }
 
-pub fn ret(contents: &[u8], bodies: &[u8], keep: bool, p: emit::Done, out: &mut [u8]) -> emit::Done
-    requires { ⌜ ReadsAt (statements (p .lbl)) (now contents) (now bodies) p (now out) ⌝ }
-    requires { ⌜ getD (now contents) (p .cont) 0 ≡ 6 ⌝ }
-    ensures { λ r. ⌜ Goes (statements (p .lbl)) (now (contents .entry)) (now (bodies .entry)) keep p (now (out .entry)) r (now (out .exit)) ⌝ }
+pub fn ret(
+    contents: &[u8],
+    bodies: &[u8],
+    keep: bool,
+    lbl: u64,
+    low: emit::Low,
+    out: &mut [u8],
+) -> emit::Done
+    requires { ⌜ Reads (statements lbl) (now contents) (now bodies) low (now out) ⌝ }
+    requires { ⌜ getD (now contents) 0 0 ≡ 6 ⌝ }
+    ensures { λ r. ⌜ Front (statements lbl) (now (contents .entry)) (now (bodies .entry)) keep lbl low (now (out .entry)) r (now (out .exit)) ⌝ }
 {
-    let at = p.cont;
-    let a = emit::pass(p, 2, 0);
-    if contents[at + 1] == 0 {
-        return fn_ret(keep, a, out);
+    let p = emit::start(2, 0, lbl, low);
+    if contents[1] == 0 {
+        return fn_ret(keep, p, out);
     }
-    let e = expr::expr_at(contents, bodies, keep, a, out);
+    let e = expr::expr_at(contents, bodies, keep, p, out);
     let reg = emit::prevreg(e.low);
-    let f = emit::fields_of(p.lbl, 19, 0, reg, 0, 0, 0);
+    let f = emit::fields_of(lbl, 19, 0, reg, 0, 0, 0);
     let q = emit::push_at(keep, e, f, out);
     fn_ret(keep, q, out)
 }
@@ -37,35 +43,35 @@ pub fn expr_stmt(
     contents: &[u8],
     bodies: &[u8],
     keep: bool,
-    p: emit::Done,
+    lbl: u64,
+    low: emit::Low,
     out: &mut [u8],
 ) -> emit::Done
-    requires { ⌜ ReadsAt (statements (p .lbl)) (now contents) (now bodies) p (now out) ⌝ }
-    requires { ⌜ getD (now contents) (p .cont) 0 ≡ 7 ⌝ }
-    ensures { λ r. ⌜ Goes (statements (p .lbl)) (now (contents .entry)) (now (bodies .entry)) keep p (now (out .entry)) r (now (out .exit)) ⌝ }
+    requires { ⌜ Reads (statements lbl) (now contents) (now bodies) low (now out) ⌝ }
+    requires { ⌜ getD (now contents) 0 0 ≡ 7 ⌝ }
+    ensures { λ r. ⌜ Front (statements lbl) (now (contents .entry)) (now (bodies .entry)) keep lbl low (now (out .entry)) r (now (out .exit)) ⌝ }
 {
-    let a = emit::pass(p, 2, 0);
-    expr::expr_at(contents, bodies, keep, a, out)
+    let p = emit::start(2, 0, lbl, low);
+    expr::expr_at(contents, bodies, keep, p, out)
 }
 
 pub fn vardecl(
     contents: &[u8],
     bodies: &[u8],
     keep: bool,
-    p: emit::Done,
+    lbl: u64,
+    low: emit::Low,
     out: &mut [u8],
 ) -> emit::Done
-    requires { ⌜ ReadsAt (statements (p .lbl)) (now contents) (now bodies) p (now out) ⌝ }
-    requires { ⌜ getD (now contents) (p .cont) 0 ≡ 8 ⌝ }
-    ensures { λ r. ⌜ Goes (statements (p .lbl)) (now (contents .entry)) (now (bodies .entry)) keep p (now (out .entry)) r (now (out .exit)) ⌝ }
+    requires { ⌜ Reads (statements lbl) (now contents) (now bodies) low (now out) ⌝ }
+    requires { ⌜ getD (now contents) 0 0 ≡ 8 ⌝ }
+    ensures { λ r. ⌜ Front (statements lbl) (now (contents .entry)) (now (bodies .entry)) keep lbl low (now (out .entry)) r (now (out .exit)) ⌝ }
 {
-    let at = p.cont;
-    let b = p.body;
-    let name = bodies[b];
-    let a = emit::pass(p, 2, 1);
-    if contents[at + 1] == 0 {
-        let f = emit::fields_of(p.lbl, 9, 4, name, 0, 0, 0);
-        return emit::push_at(keep, a, f, out);
+    let name = bodies[0];
+    let p = emit::start(2, 1, lbl, low);
+    if contents[1] == 0 {
+        let f = emit::fields_of(lbl, 9, 4, name, 0, 0, 0);
+        return emit::push_at(keep, p, f, out);
     }
-    expr::assign_at(name, contents, bodies, keep, a, out)
+    expr::assign_at(name, contents, bodies, keep, p, out)
 }

@@ -31,7 +31,7 @@ fn put_entry(out: &mut [u8], at: usize, state: &[u8], from: usize, i: usize) -> 
     requires { ⌜ (at ≤ length (now out)) × (from + 256 ≤ length (now state)) × (i < 16) ⌝ }
     ensures { λ r. ⌜ Put (now (out .entry)) at (entryText (entry (getD (part (now (state .entry)) from 256) (232 + i) 0) (slotItem (part (now (state .entry)) from 256) i))) (now (out .exit)) r ⌝ }
 {
-    let key = lent::wide(state[from + (232 + i)]);
+    let key = lent::wide(state[from + (sifv::VALUE_KEYS + i)]);
     let p = text::put_decimal(out, at, key);
     let q = text::put_all(out, p, b"=");
     text::put_single(out, q, sifv::get_item(state, from, i))

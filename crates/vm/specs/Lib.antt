@@ -1,7 +1,7 @@
 pub mod RuntimeErr
 pub mod Operation
 pub mod Machine
+pub mod Report
 pub mod StateBytes
 pub mod Storable
-pub mod laws
 pub mod inner

@@ -1,5 +1,5 @@
 -- The walk and the bound, computed on small scripts. The figures are the original's, with the places altered that document 02 names, printed by oracle/ for
--- the same scripts (crates/engine/proofs has the files of most). Each wrong turn of the walk or the bound gives another figure on one of them.
+-- the same scripts (crates/listing_text/proofs has the files of most). Each wrong turn of the walk or the bound gives another figure on one of them.
 use Prim.Native.Nat.{ℕ}
 use mathlib.Core.Path.{_≡_, refl}
 use mathlib.Core.Bool.{true}

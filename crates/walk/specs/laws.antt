@@ -7,4 +7,5 @@ pub mod Parts
 pub mod ShortArrays
 pub mod Simulation
 pub mod Small
+pub mod Standing
 pub mod Theorems

@@ -10,8 +10,8 @@ returns-2 c w i n b e = push-full w i _ _ (c .before .before .before .if1 .left)
 
 keep-record-requires : tie.Need-keep-record-requires
 keep-record-requires c κs k =
-    let s : tie.Start = search in
-    let a = s .args in omega (arith, roomy (a .keep) (a .low) 0 (sym (c .before .before .is-full .ensures) ∙ c .before .if2 .left) .1 k .0, s .pre .room)
+    let else2 : tie.Else2 = search in let at-is-full : tie.After-is-full = search in let s : tie.Start = search in
+    let a = s .args in omega (arith, roomy (a .keep) (a .low) 0 (sym (at-is-full .is-full .ensures) ∙ else2 .if2 .left) .1 k .0, s .pre .room)
 
 returns-3 : tie.Need-returns-3
 returns-3 c w i n b e =
@@ -21,5 +21,5 @@ returns-3 c w i n b e =
 pub push-op-spec : {M : Type 1} → statement M
 push-op-spec =
     tie.close (tie.spec (λ c w i n b e. push-refused w i _ _ (c .if1 .taken)) (λ c κs. search needs)
-    (λ c κs. search needs) returns-2 keep-record-requires (λ c κs. search needs)
+    (λ c κs. search needs) returns-2 (λ c. search needs) keep-record-requires (λ c κs. search needs)
     (λ c. search needs) returns-3)

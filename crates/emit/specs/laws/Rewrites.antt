@@ -83,8 +83,8 @@ module _ (i j : Instr) (t : List ℕ) (ni : itemsOf (op i) ≡ []) (nj : itemsOf
       ∙ ap (λ (x : Low). wrote es x (write (Push w j) s buf)) (same-step w s)
 
 -- the two jumps: their targets are the number at byte 8
-pub jump-target : (n l p : ℕ) → splice (encodeInstr (instr n (Jmpa 0)) p) 8 (beBytes 8 l) ≡ encodeInstr (instr n (Jmpa l)) p
-jump-target n l p = refl
+pub jump-target : (n t l p : ℕ) → splice (encodeInstr (instr n (Jmpa t)) p) 8 (beBytes 8 l) ≡ encodeInstr (instr n (Jmpa l)) p
+jump-target n t l p = refl
 
 pub test-target : (n r l p : ℕ) (k : JmpOpKind) → splice (encodeInstr (instr n (JmpCnd k r 0)) p) 8 (beBytes 8 l) ≡ encodeInstr (instr n (JmpCnd k r l)) p
 test-target n r l p k = refl

@@ -1,4 +1,4 @@
--- The same by the bytes of a report and a state: docs/FORMATS.md, "Report of a run" and "State". Definitions only.
+-- The lines of Ending.antt (crate listing_text) by the bytes of a report and a state: docs/FORMATS.md, "Report of a run" and "State". Definitions only.
 use Prim.Native.Nat.{ℕ, _-_, _^_}
 use mathlib.Core.Bool.{cond}
 use mathlib.Core.List.{List, [], _∷_, _++_, map}
@@ -9,7 +9,7 @@ use lib.Count.{onesIn}
 use Rattle.lent.specs.Bytes.{beValue, part}
 use Rattle.vm.specs.StateBytes.{slotsAt}
 use Rattle.text.specs.Text.{ascii, decimal, words, lineOf}
-use Rattle.ending.specs.Ending.{signed, nameLines}
+use Rattle.listing_text.specs.Ending.{signed, nameLines}
 
 -- a signed number from its two's complement
 abbrev pub signedOf : ℕ → ℤ

@@ -14,13 +14,13 @@ use Rattle.sifv.specs.Slot.{decodeSlot}
 use Rattle.sifv.specs.inner.Seen.{seen, kindIn}
 use Rattle.sifv.specs.declared.SifVal.{SifVal}
 use Rattle.vm.specs.StateBytes.{slotsAt}
-use Rattle.vm.specs.laws.StateLaws.{slot-at}
+use Rattle.vm_laws.specs.laws.StateLaws.{slot-at}
 use Rattle.text.specs.Text.{ascii, decimal, numberFields, lineOf}
 use Rattle.text.specs.Put.{Put}
 use Rattle.text.specs.laws.PutLaws.{put-none, put-then, put-within}
 use Rattle.text.specs.laws.Joined.{put-field, put-fields, put-end, put-turn}
 use Rattle.values.specs.inner.SlotText.{slotText}
-use Rattle.ending.specs.Ending.{signed, nameLine, nameLines}
+use Rattle.listing_text.specs.Ending.{signed, nameLine, nameLines}
 use Rattle.ending.specs.inner.EndBytes.{signedOf, detailCount, stopIn}
 
 -- ---- 0, 1 or 3 details

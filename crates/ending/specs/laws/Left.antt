@@ -8,7 +8,7 @@ use Rattle.tables.specs.Tables.{Program}
 use Rattle.vm.specs.RuntimeErr.{RuntimeErr}
 use Rattle.vm.specs.Machine.{Stopped, Ran}
 use Rattle.vm.specs.StateBytes.{encodeState}
-use Rattle.report.specs.Report.{report}
+use Rattle.vm.specs.Report.{report}
 use Rattle.tables.specs.Limits.{programOk}
 use Rattle.vm.specs.Storable.{Storable, WholeDetails}
 

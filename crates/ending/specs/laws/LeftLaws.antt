@@ -18,16 +18,16 @@ use Rattle.sifv.specs.laws.Layout.{field-behind}
 use Rattle.opc.specs.Op.{Instr, op}
 use Rattle.tables.specs.Tables.{Program}
 use Rattle.tables.specs.laws.ProgramLaws.{limits}
-use Rattle.vm.specs.RuntimeErr.{RuntimeErr, stopNumber, details, InvalidName, InvalidIncr, InvalidIncrTy, InvalidDecr, InvalidDecrTy, InvalidJump, RegNoContents, TyMismatch, NotAnArray, InvalidFnSym, EmptyCallStack, IndexOutOfBounds, EmptyRegister, KeyAbsent, NotSingle, StackFull, KeysFull, NoIndex}
+use Rattle.vm.specs.RuntimeErr.{RuntimeErr, stopNumber, details, InvalidName, InvalidIncr, InvalidIncrTy, InvalidDecr, InvalidDecrTy, InvalidJump, RegNoContents, TyMismatch, NotAnArray, InvalidFnSym, EmptyCallStack, IndexOutOfBounds, EmptyRegister, KeyAbsent, Nested, StackFull, TableFull, NoIndex}
 use Rattle.vm.specs.Machine.{Machine, State, started, Answer, Done, Stopped, Spent, Ran, run, line}
 use Rattle.vm.specs.StateBytes.{mark, slotsAt, encodeState, decodeState}
-use Rattle.vm.specs.laws.StateLaws.{parts, state-fields, state-behind}
-use Rattle.vm.specs.laws.StopLaws.{stop-whole}
-use Rattle.vm.specs.laws.Kept.{started-storable, run-storable}
-use Rattle.state.specs.laws.Marks.{mark-fits}
-use Rattle.report.specs.Report.{signedBytes, reportBytes, report}
+use Rattle.vm_laws.specs.laws.StateLaws.{parts, state-fields, state-behind}
+use Rattle.vm_laws.specs.laws.StopLaws.{stop-whole}
+use Rattle.vm_laws.specs.laws.Kept.{started-storable, run-storable}
+use Rattle.vm_laws.specs.laws.StateLaws.{mark-fits}
+use Rattle.vm.specs.Report.{signedBytes, reportBytes, report}
 use Rattle.text.specs.Text.{ascii, decimal, words, lineOf}
-use Rattle.ending.specs.Ending.{signed, endLine, nameLines, ranText}
+use Rattle.listing_text.specs.Ending.{signed, endLine, nameLines, ranText}
 use Rattle.ending.specs.inner.EndBytes.{signedOf, detailCount, detailsIn, stopIn, endIn, ranIn}
 use Rattle.ending.specs.laws.Left.{RunLeft}
 use Rattle.opc.specs.Limits.{OpFits}
@@ -80,9 +80,9 @@ details-counted EmptyCallStack = refl
 details-counted (IndexOutOfBounds x i n) = refl
 details-counted EmptyRegister = refl
 details-counted KeyAbsent = refl
-details-counted NotSingle = refl
+details-counted Nested = refl
 details-counted StackFull = refl
-details-counted KeysFull = refl
+details-counted TableFull = refl
 details-counted NoIndex = refl
 
 -- ---- the end line

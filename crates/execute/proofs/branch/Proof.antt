@@ -11,7 +11,7 @@ use Rattle.execute.specs.declared.Step.the-variants as step
 use borrow.Author.Needs.{needs}
 use Rattle.execute.proofs.branch.Statement.{statement}
 use Rattle.execute.proofs.branch.Tie as tie
-use Rattle.execute.specs.inner.ProgramView.{programIn}
+use Rattle.tables.specs.ProgramBytes.{programIn}
 
 kind-at-requires : tie.Need-kind-at-requires
 kind-at-requires c κs =

@@ -23,7 +23,8 @@ use Rattle.execute.specs.declared.Step.the-variants as step
 use borrow.Author.Needs.{needs}
 use Rattle.execute.proofs.execute.Statement.{statement}
 use Rattle.execute.proofs.execute.Tie as tie
-use Rattle.execute.specs.inner.ProgramView.{programIn, ProgramReady}
+use Rattle.tables.specs.ProgramBytes.{programIn}
+use Rattle.execute.specs.inner.ProgramView.{ProgramReady}
 
 neat : (s : tie.Start) → Neat (s .args .state .now)
 neat s = canon-neat _ _ _ (s .pre .1)

@@ -5,7 +5,7 @@ use Rattle.execute.specs.declared.Step.the-variants as step
 use borrow.Author.Needs.{needs}
 use Rattle.execute.proofs.jump.Statement.{statement}
 use Rattle.execute.proofs.jump.Tie as tie
-use Rattle.execute.specs.inner.ProgramView.{programIn}
+use Rattle.tables.specs.ProgramBytes.{programIn}
 
 returns : tie.Need-returns
 returns c =

@@ -42,7 +42,7 @@ returns-3 : tie.Need-returns-3
 returns-3 c =
     let else2 : tie.Else2 = search in let at-len-at : tie.After-len-at = search in let else1 : tie.Else1 = search in
     let at-kind-at : tie.After-kind-at = search in let at-slot : tie.After-slot = search in let s : tie.Start = search in
-    update-multi (s .args .state .now) (s .args .name) (s .args .i) (regsOf (s .args .state .now) (s .args .val)) (s .pre .3) (part (s .args .state .now) (at-slot .slot .result) 256) ((name-formed _ (s .pre .0) _ (s .pre .1) (at-slot .slot .ensures)) .1) (sym (at-kind-at .kind-at .ensures) ∙ else1 .if1 .left) (name-value _ (s .pre .0) _ (s .pre .1) (at-slot .slot .ensures)) (at-len-at .len-at .ensures) (else2 .if2 .left) (c .before .before .kind-at2 .ensures ∙ ap (λ (o : Option Value). kindIn (seen o)) (reg-value _ (s .pre .0) _ (s .pre .2) (c .before .before .before .before .reg .ensures))) (c .before .if3 .taken) (ap did.Err (c .not-single .ensures)) refl
+    update-multi (s .args .state .now) (s .args .name) (s .args .i) (regsOf (s .args .state .now) (s .args .val)) (s .pre .3) (part (s .args .state .now) (at-slot .slot .result) 256) ((name-formed _ (s .pre .0) _ (s .pre .1) (at-slot .slot .ensures)) .1) (sym (at-kind-at .kind-at .ensures) ∙ else1 .if1 .left) (name-value _ (s .pre .0) _ (s .pre .1) (at-slot .slot .ensures)) (at-len-at .len-at .ensures) (else2 .if2 .left) (c .before .before .kind-at2 .ensures ∙ ap (λ (o : Option Value). kindIn (seen o)) (reg-value _ (s .pre .0) _ (s .pre .2) (c .before .before .before .before .reg .ensures))) (c .before .if3 .taken) (ap did.Err (c .nested .ensures)) refl
 
 store-item-requires : tie.Need-store-item-requires
 store-item-requires c κs =

@@ -16,26 +16,26 @@ lower-tree-requires c κs =
 
 returns-2 : tie.Need-returns-2
 returns-2 c t rest sp z =
-    let s : tie.Start = search in
-    let did = c .before .before .before .before .lower-tree .ensures t (sp .within) (sp .few) (sp .contents) (sp .parts) (sp .numbers) refl in
-    one-refused t rest (s .args .program .now) (sp .within) (sp .few) z _ _ did (c .if2 .taken)
+    let then2 : tie.Then2 = search in let at-lower-tree : tie.After-lower-tree = search in let s : tie.Start = search in
+    let did = at-lower-tree .lower-tree .ensures t (sp .within) (sp .few) (sp .contents) (sp .parts) (sp .numbers) refl in
+    one-refused t rest (s .args .program .now) (sp .within) (sp .few) z _ _ did (then2 .if2 .taken)
 
 finish-requires : tie.Need-finish-requires
 finish-requires c κs =
-    let at-lower-tree : tie.After-lower-tree = search in let s : tie.Start = search in
+    let then3 : tie.Then3 = search in let else2 : tie.Else2 = search in let at-lower-tree : tie.After-lower-tree = search in let s : tie.Start = search in
     let t = s .pre .0 .0 in
     let sp = s .pre .0 .1 in
     let did = at-lower-tree .lower-tree .ensures t (sp .within) (sp .few) (sp .contents) (sp .parts) (sp .numbers) refl in
-    let a = one-asks t (s .pre .1 .0) (s .args .program .now) (sp .within) (sp .few) (s .pre .1 .1) _ _ did (c .before .before .before .if2 .left) (c .before .if3 .taken) in
+    let a = one-asks t (s .pre .1 .0) (s .args .program .now) (sp .within) (sp .few) (s .pre .1 .1) _ _ did (else2 .if2 .left) (then3 .if3 .taken) in
     ((a .long, a .few, a .labels, a .functions), (_, a .records))
 
 returns-3 : tie.Need-returns-3
 returns-3 c t rest sp z =
-    let else2 : tie.Else2 = search in let at-lower-tree : tie.After-lower-tree = search in let s : tie.Start = search in
+    let then3 : tie.Then3 = search in let else2 : tie.Else2 = search in let at-lower-tree : tie.After-lower-tree = search in let s : tie.Start = search in
     let b = s .args .program .now in
     let did = at-lower-tree .lower-tree .ensures t (sp .within) (sp .few) (sp .contents) (sp .parts) (sp .numbers) refl in
     let o = else2 .if2 .left in
-    let h = c .before .before .before .before .if3 .taken in
+    let h = then3 .if3 .taken in
     one-gives t rest b (sp .within) (sp .few) z _ _ did o h _ (c .before .before .finish .ensures _ (one-asks t rest b (sp .within) (sp .few) z _ _ did o h .records))
 
 clear-requires : tie.Need-clear-requires
@@ -63,5 +63,5 @@ returns-4 c t rest sp z =
 pub compile-spec : {M : Type 1} → statement M
 compile-spec =
     tie.close (tie.spec (λ c κs. search needs) (λ c κs. search needs) (λ c. search needs)
-    (λ c. c .before .before .compile-both .ensures) lower-tree-requires (λ c. search needs) returns-2 finish-requires
+    (λ c. c .before .before .compile-both .ensures) lower-tree-requires (λ c. search needs) (λ c. search needs) returns-2 (λ c. search needs) finish-requires
     (λ c. search needs) returns-3 clear-requires compile-both-requires-2 (λ c. search needs) returns-4)

@@ -5,7 +5,7 @@ use mathlib.Core.List.{List, _++_}
 use native.Mathlib.Omega.{arith}
 use lib.ListN.{length, getD, take, drop, replicate, length-replicate, length-drop}
 use lib.Seq.{take-all}
-use borrow.Author.Tests.{lt-ltb, le-ltb}
+use borrow.Author.Tests.{le-leb, lt-leb}
 use Rattle.lent.specs.Bytes.{AreBytes, beValue, part, splice}
 use Rattle.lent.specs.laws.Parts.{length-part, part-lent}
 use Rattle.ast.specs.Tree.{Stmts}
@@ -18,7 +18,8 @@ use Rattle.tables.specs.laws.ProgramLaws.{program-length}
 use Rattle.compiler.specs.Lower.{lowerTree, refusal, programOf, decide, lower, lowered}
 use Rattle.compiler.specs.laws.ReadWithin.{read-within}
 use Rattle.compiler.specs.laws.Accepted.{lowered-within}
-use Rattle.lower.specs.LowerCall.{over, answered, lowerMade, lowerRead, lowerCall}
+use Rattle.lent.specs.Answered.{over, answered}
+use Rattle.boundary.specs.LowerCall.{lowerMade, lowerRead, lowerCall}
 use Rattle.lower.specs.inner.Compile.{Spelt, Cleared, Compiled}
 use Rattle.lower.specs.laws.CompileLaws.{clears}
 use Rattle.lent.specs.Lists.{zeros, sum}
@@ -61,12 +62,12 @@ module _ (f : List ℕ) (o : answerOf (readTree f) ≡ 0) (n : ℕ) (en : n ≡ 
 module _ (f buf : List ℕ) where
   pub short-gives : length buf < 40960 → answered 9 buf ≡ lowerCall f buf
   unfolding lowerCall
-  short-gives h = rw (lt-ltb (length buf) 40960 h)
+  short-gives h = rw (lt-leb 40960 (length buf) h)
 
   module _ (h : 40960 ≤ length buf) where
     read-gives : lowerCall f buf ≡ lowerRead (readTree f) buf
     unfolding lowerCall
-    read-gives = rw (le-ltb (length buf) 40960 h)
+    read-gives = rw (le-leb 40960 (length buf) h)
 
     by-read : (r : Read) (n : ℕ) (b : List ℕ) → n ≡ answerOf r → (n ≡ 0 → ⊥) → b ≡ over (zeros 40960) buf → answered n b ≡ lowerRead r buf
     by-read (Refused k) n b e o q = rw (e, q)

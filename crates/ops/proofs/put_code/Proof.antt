@@ -6,7 +6,7 @@ use Rattle.lent.specs.Bytes.{concat}
 use Rattle.text.specs.Put.{Put}
 use Rattle.text.specs.laws.PutLaws.{put-none, put-length, put-within}
 use Rattle.text.specs.laws.Joined.{put-turn}
-use Rattle.ops.specs.ProgramText.{opLine}
+use Rattle.listing_text.specs.ProgramText.{opLine}
 use Rattle.ops.specs.inner.Told.{instrAt}
 use borrow.Author.Needs.{needs}
 use Rattle.ops.proofs.put_code.Statement.{statement}

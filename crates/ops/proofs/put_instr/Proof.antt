@@ -5,7 +5,7 @@ use Rattle.opc.specs.Record.{Fields}
 use Rattle.opc.specs.inner.Fetch.{fieldsTold}
 use Rattle.text.specs.laws.PutLaws.{put-as, put-within, put-then}
 use Rattle.text.specs.laws.Joined.{put-four}
-use Rattle.ops.specs.ProgramText.{opLine}
+use Rattle.listing_text.specs.ProgramText.{opLine}
 use Rattle.ops.specs.inner.Told.{opIn, PooledTold}
 use Rattle.ops.specs.laws.TextLaws.{instr-text}
 use borrow.Author.Needs.{needs}

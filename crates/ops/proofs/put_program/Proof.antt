@@ -8,7 +8,7 @@ use Rattle.ops.specs.laws.TextLaws.{program-lines}
 use borrow.Author.Needs.{needs}
 use Rattle.ops.proofs.put_program.Statement.{statement}
 use Rattle.ops.proofs.put_program.Tie as tie
-use Rattle.execute.specs.inner.ProgramView.{programIn}
+use Rattle.tables.specs.ProgramBytes.{programIn}
 
 put-code-requires : tie.Need-put-code-requires
 put-code-requires c κs =

@@ -22,13 +22,13 @@ use Rattle.opc.specs.Op.{Op, Binary, Unary, Ldc, Ldn, Mv, Ldas, Ldav, Upda, Stc
 use Rattle.opc.specs.Record.{Fields, literalItems}
 use Rattle.tables.specs.Tables.{Program, entered, labelAt, declares, declared, functionAt}
 use Rattle.tables.specs.ProgramBytes.{indexWord}
-use Rattle.vm.specs.laws.StateLaws.{below-word}
-use Rattle.vm.specs.laws.Kept.{label-below}
+use Rattle.vm_laws.specs.laws.StateLaws.{below-word}
+use Rattle.vm_laws.specs.laws.Kept.{label-below}
 use Rattle.text.specs.Text.{ascii, decimal, singleText, joined, words, lineOf}
 use Rattle.text.specs.Put.{Put}
 use Rattle.text.specs.laws.PutLaws.{put-as, put-then}
 use Rattle.text.specs.laws.Joined.{row-end}
-use Rattle.ops.specs.ProgramText.{opWords, opLine, opLines, indexLine, indexLines, highest, programText}
+use Rattle.listing_text.specs.ProgramText.{opWords, opLine, opLines, indexLine, indexLines, highest, programText}
 use Rattle.ops.specs.inner.Told.{itemTold, paramAt, literalTold, Within, PooledTold, instrAt, entryLine, tableEntry}
 use Rattle.ops.specs.laws.ToldLaws.{length-tabulate, Accepted}
 use Rattle.lent.specs.Lists.{tabulate}

@@ -28,8 +28,8 @@ use Rattle.records.proofs.Missed.{Rest, misses}
 use Rattle.tables.specs.Tables.{Program, labelAt, functionAt}
 pub use Rattle.tables.specs.laws.ProgramLaws.{length-tabulate}
 use Rattle.tables.specs.ProgramBytes.{indexWord, decodeCode, labelBytes, functionBytes, tablesOk, decodeProgram}
-use Rattle.vm.specs.laws.StateLaws.{region}
-use Rattle.ops.specs.ProgramText.{highest}
+use Rattle.vm_laws.specs.laws.StateLaws.{region}
+use Rattle.listing_text.specs.ProgramText.{highest}
 use Rattle.ops.specs.inner.Told.{itemTold, paramAt, literalTold, operationsTold, opIn, Within, PooledTold, instrAt}
 use Rattle.lent.specs.Lists.{tabulate, when, with, onlyIf}
 use Rattle.opc.specs.inner.Shows.{entryOf}

@@ -4,7 +4,7 @@ use mathlib.Core.Bool.{true, false}
 use mathlib.Core.Option.{Option, none, some}
 use Prim.Native.Nat.{ℕ}
 use native.Mathlib.Omega.{arith}
-use Rattle.program.specs.inner.Held.{isSome}
+use Rattle.lent.specs.Lists.{isSome}
 
 -- where there is one
 pub held : {A : Type 0} (o : Option A) → isSome o ≡ true → (a : A) × (o ≡ some a)

@@ -6,9 +6,9 @@ use lib.IntN.{ℤ, pos, negsuc}
 use lib.Dec.{leb}
 use Rattle.lent.specs.Bytes.{beBytes}
 use Rattle.execute.specs.declared.RuntimeErr.{RuntimeErr}
-use Rattle.run.specs.declared.Answer.{Answer}
-use Rattle.run.specs.declared.Answer.the-variants.{Done, Stopped, Spent}
-use Rattle.report.specs.Report.{signedBytes}
+use Rattle.execute.specs.declared.Answer.{Answer}
+use Rattle.execute.specs.declared.Answer.the-variants.{Done, Stopped, Spent}
+use Rattle.vm.specs.Report.{signedBytes}
 use Rattle.lent.specs.Lists.{zeros}
 
 -- the line of a position on numbers: `line` of crate vm

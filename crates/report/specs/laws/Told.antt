@@ -11,14 +11,14 @@ use borrow.Author.Tests.{leb-true, leb-false}
 use Rattle.lent.specs.Bytes.{beBytes, splice}
 use Rattle.lent.specs.laws.Parts.{splice-append}
 use Rattle.tables.specs.Tables.{Program}
-use Rattle.vm.specs.RuntimeErr.{RuntimeErr, stopNumber, details, InvalidName, InvalidIncr, InvalidIncrTy, InvalidDecr, InvalidDecrTy, InvalidJump, RegNoContents, TyMismatch, NotAnArray, InvalidFnSym, EmptyCallStack, IndexOutOfBounds, EmptyRegister, KeyAbsent, NotSingle, StackFull, KeysFull, NoIndex}
+use Rattle.vm.specs.RuntimeErr.{RuntimeErr, stopNumber, details, InvalidName, InvalidIncr, InvalidIncrTy, InvalidDecr, InvalidDecrTy, InvalidJump, RegNoContents, TyMismatch, NotAnArray, InvalidFnSym, EmptyCallStack, IndexOutOfBounds, EmptyRegister, KeyAbsent, Nested, StackFull, TableFull, NoIndex}
 use Rattle.vm.specs.Machine.{State, Answer, Done, Stopped, Spent, line}
 use Rattle.execute.specs.inner.View.{given}
 use Rattle.execute.specs.declared.RuntimeErr.{RuntimeErr as GivenErr}
-use Rattle.run.specs.inner.Runs.{Answers, done, stopped, spent}
-use Rattle.run.specs.declared.Answer.{Answer as GivenAnswer}
-use Rattle.run.specs.declared.Answer.the-variants as given-answer
-use Rattle.report.specs.Report.{signedBytes, report}
+use Rattle.execute.specs.inner.Progress.{Answers, done, stopped, spent}
+use Rattle.execute.specs.declared.Answer.{Answer as GivenAnswer}
+use Rattle.execute.specs.declared.Answer.the-variants as given-answer
+use Rattle.vm.specs.Report.{signedBytes, report}
 use Rattle.report.specs.inner.Fields.{lineAt, reportFields, noStop, reportOf}
 use Rattle.lent.specs.Lists.{zeros}
 
@@ -74,9 +74,9 @@ number-byte EmptyCallStack = refl
 number-byte (IndexOutOfBounds x i n) = refl
 number-byte EmptyRegister = refl
 number-byte KeyAbsent = refl
-number-byte NotSingle = refl
+number-byte Nested = refl
 number-byte StackFull = refl
-number-byte KeysFull = refl
+number-byte TableFull = refl
 number-byte NoIndex = refl
 
 module _ (p : Program) (s : State) (k : ℕ) where

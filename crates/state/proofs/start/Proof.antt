@@ -5,7 +5,7 @@ use Rattle.state.specs.laws.Starts.{start-written}
 use borrow.Author.Needs.{needs}
 use Rattle.state.proofs.start.Statement.{statement}
 use Rattle.state.proofs.start.Tie as tie
-use Rattle.execute.specs.inner.ProgramView.{programIn}
+use Rattle.tables.specs.ProgramBytes.{programIn}
 
 put-u16-requires : tie.Need-put-u16-requires
 put-u16-requires c κs =

@@ -8,7 +8,7 @@ use lib.ListN.{getD}
 use Rattle.lent.specs.Bytes.{beValue, part, sameBytes}
 use Rattle.sifv.specs.Slot.{slotOk}
 use Rattle.execute.specs.declared.Loc.{Loc}
-use Rattle.run.specs.declared.Progress.{Progress}
+use Rattle.execute.specs.declared.Progress.{Progress}
 use Rattle.lent.specs.Lists.{zeros, upto}
 
 abbrev pub locAt : List ℕ → Loc

@@ -24,8 +24,8 @@ use Rattle.sifv.specs.laws.Formed.{kind-at-law}
 use Rattle.tables.specs.ProgramBytes.{indexWord}
 use Rattle.vm.specs.Machine.{State}
 use Rattle.vm.specs.StateBytes.{below, mark, frame, orNothing, slotsAt, stackAt, framesAt, functionsAt, wordIndex, encodeState, stateOk}
-use Rattle.vm.specs.laws.StateLaws.{upto-at, slot-at, slot-none, function-at, function-none, stack-push, frames-push, each-map, each-get, each-reverse, state-accepted}
-use Rattle.vm.specs.laws.Kept.{within-all-of, sound-storable}
+use Rattle.vm_laws.specs.laws.StateLaws.{upto-at, slot-at, slot-none, function-at, function-none, stack-push, frames-push, each-map, each-get, each-reverse, state-accepted}
+use Rattle.vm_laws.specs.laws.Kept.{within-all-of, sound-storable}
 use Rattle.execute.specs.inner.View.{namesOf, view, Canon}
 use Rattle.execute.specs.laws.Laying.{canon-neat, get-push, get-out, length-stack, length-frames}
 use Rattle.execute.specs.laws.Acts.{kind-none}

@@ -11,9 +11,8 @@ use Rattle.sifv.specs.Value.{Value, One, Num, Str, Bl, Null, Arr, Tab}
 use Rattle.sifv.specs.Slot.{decodeSlot}
 use Rattle.sifv.specs.inner.Seen.{seen, kindIn}
 use Rattle.sifv.specs.laws.Formed.{kind-at-law}
-use Rattle.vm.specs.Operation.{Slots}
 use Rattle.vm.specs.StateBytes.{bit, mark, slotsAt}
-use Rattle.vm.specs.laws.StateLaws.{slot-at}
+use Rattle.vm_laws.specs.laws.StateLaws.{slot-at}
 use Rattle.state.specs.inner.Fields.{kindBit, markAt, markOf}
 use Rattle.sifv.specs.inner.Forms.{Formed}
 
@@ -86,18 +85,3 @@ module _ (b : List ℕ) (f : (k : ℕ) → k < 64 → Formed (part b (24576 + k 
   pub mark-law : markOf b ≡ mark 0 64 (slotsAt b 24576 64)
   unfolding markOf
   mark-law = mark-from 64 0 (omega arith)
-
--- a mark fits its 64 bits
-pub mark-fits : (f : Slots Value) → mark 0 64 f < 2 ^ 64
-mark-fits f = omega (arith, fits 64 0)
-  where
-    bit-le : (v : Option Value) → bit v ≤ 1
-    bit-le none = omega arith
-    bit-le (some v) = omega arith
-
-    fits : (n x : ℕ) → mark x n f + 2 ^ x ≤ 2 ^ (x + n)
-    fits zero x = let z : x + 0 ≡ x = omega arith in rw z (omega arith)
-    fits (suc n) x =
-        let z : x + suc n ≡ suc x + n = omega arith in
-        let w = mul-le-mul-right (2 ^ x) (bit-le (f x)) in
-        rw z (omega (arith, fits n (suc x), w))

@@ -15,13 +15,14 @@ use Rattle.sifv.specs.laws.SlotLaws.{slot-length}
 use Rattle.tables.specs.ProgramBytes.{indexWord}
 use Rattle.vm.specs.Machine.{Machine, State}
 use Rattle.vm.specs.StateBytes.{slotsBytes, frame, mark, encodeState, decodeState, stateOk}
-use Rattle.vm.specs.laws.StateLaws.{slot-at, region, state-fields, state-same, length-frame, each-get, each-reverse}
-use Rattle.vm.specs.laws.Kept.{accepted-storable, storable-sound}
+use Rattle.vm_laws.specs.laws.StateLaws.{slot-at, region, state-fields, state-same, length-frame, each-get, each-reverse}
+use Rattle.vm_laws.specs.laws.Kept.{accepted-storable, storable-sound}
 use Rattle.execute.specs.inner.View.{namesOf, view, locOf, Holds, Canon}
 use Rattle.execute.specs.laws.Laying.{cells-each, laid-view, laid-canon, canon-neat, length-stack, length-frames}
 use Rattle.execute.specs.declared.Loc.{Loc}
 use Rattle.state.specs.inner.Fields.{locAt, markOf}
-use Rattle.state.specs.laws.Marks.{mark-law, mark-fits}
+use Rattle.state.specs.laws.Marks.{mark-law}
+use Rattle.vm_laws.specs.laws.StateLaws.{mark-fits}
 use Rattle.lent.specs.Lists.{zeros, each}
 use Rattle.vm.specs.Storable.{Storable, Held}
 use Rattle.vm.specs.inner.SoundMachine.{Sound}

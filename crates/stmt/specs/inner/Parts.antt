@@ -1,17 +1,17 @@
 -- The parts of a tree that are lowered here: statements, lists of them, the arms of an If, what a For goes over; and what leaves emit. Definitions only.
-use Prim.Native.Nat.{ℕ, _+_, _*_, _≤_, _<_, _^_}
+use Prim.Native.Nat.{ℕ, _+_, _-_, _*_, _≤_, _<_, _^_}
 use mathlib.Core.Path.{_≡_}
-use mathlib.Core.Bool.{Bool, true, cond}
+use mathlib.Core.Bool.{Bool, true, cond, _&&_}
 use mathlib.Core.List.{List, [], _∷_, _++_, map}
 use lib.Dec.{T, ltb, eqb}
-use lib.ListN.{length, drop, replicate}
-use Rattle.lent.specs.Bytes.{beBytes, splice, concat}
+use lib.ListN.{length, replicate}
+use Rattle.lent.specs.Bytes.{beValue, beBytes, part, splice, concat}
 use Rattle.sifv.specs.Value.{Num, One, Str}
 use Rattle.opc.specs.Op.{Lt, Jmpt, Binary, Ldn, Ldas, Ldav, Stc, Str, JmpCnd, Incrr, Fn}
 use Rattle.ast.specs.Tree.{Expr, Source, Stmt, Block, IfStmt, FnDecl, Stmts, Rest}
 use Rattle.ast.specs.Flat.{flatExpr, flatSource, flatStmt, flatStmts, flatRest, stmtCount, elifCount, elseCount}
-use Rattle.ast.specs.Limits.{everySource, everyStmt, every, everyRest}
-use Rattle.compiler.specs.Lower.{Place, Event, Reg, push, inner, declaring, lowerPops, orNop, stmtLabels, stmtsLabels, restLabels, lowerSource, lowerStmt, lowerStmts, lowerRest}
+use Rattle.ast.specs.Limits.{everyExpr, everySource, everyStmt, every, everyRest}
+use Rattle.compiler.specs.Lower.{Place, Event, Reg, push, inner, declaring, lowerPops, orNop, exprRegs, stmtLabels, stmtsLabels, restLabels, lowerExpr, lowerArm, lowerSource, lowerStmt, lowerStmts, lowerRest}
 use Rattle.emit.specs.declared.Low.{Low}
 use Rattle.emit.specs.declared.Done.{Done}
 use Rattle.emit.specs.inner.Run.{kept, Did}
@@ -57,6 +57,21 @@ arms l e m = record {
   next = λ a n. n + stmtLabels (whole-if a);
 }
 
+-- a condition and its Block alone; what ends the Block jumps to t
+pub record HeadPart : Type 0 where
+  pub test : Expr
+  pub body : Stmts
+
+abbrev pub heads : ℕ → ℕ → Part HeadPart
+heads l t = record {
+  nodes = λ a. flatExpr (a .test) ++ flatStmt (Block (a .body));
+  ok = λ a. T (everyExpr anyText fits (a .test)) × T (every anyText fits (a .body)) × (l + 1 + stmtsLabels (a .body) + 1 < 2 ^ 64);
+  emits = λ a w n r.
+      let q = r + exprRegs (a .test) in
+      lowerArm w n (lowerExpr (a .test) w n r) q (orNop (a .body) w (n + 1) (lowerStmts (a .body) w (n + 1) q)) (n + 1 + stmtsLabels (a .body)) t;
+  next = λ a n. n + 1 + stmtsLabels (a .body) + 1;
+}
+
 abbrev pub rests : ℕ → ℕ → ℕ → Part Rest
 rests l e m = record {
   nodes = flatRest;
@@ -73,6 +88,29 @@ pub record Emitted (f : Place → List Event) (l : ℕ) (k : Bool) (p : Done) (b
 -- the target of a jump that was pushed between a and b becomes l, where its record was written
 abbrev pub retarget : Low → Low → ℕ → List ℕ → List ℕ
 retarget a b l buf = cond (ltb (a .recs) (b .recs)) (splice buf (16 * a .recs + 8) (beBytes 8 l)) buf
+
+-- ---- the jumps of an If that wait for its end: their records, the last first. Each holds, where its target will stand, the one before it, counted from 1
+
+abbrev pub lastWaiting : List ℕ → ℕ
+lastWaiting [] = 0
+lastWaiting (x ∷ xs) = x + 1
+
+abbrev pub Waits : List ℕ → List ℕ → Type 0
+Waits [] buf = Unit {0}
+Waits (x ∷ xs) buf = (lastWaiting xs ≤ x) × (x < 1024) × (beValue (part buf (16 * x + 8) 8) ≡ lastWaiting xs) × Waits xs buf
+
+-- all get their target
+abbrev pub targets : List ℕ → ℕ → List ℕ → List ℕ
+targets [] l buf = buf
+targets (x ∷ xs) l buf = targets xs l (splice buf (16 * x + 8) (beBytes 8 l))
+
+-- whether the jump that was pushed last, and left s, was written
+abbrev pub written : Bool → Low → Bool
+written k s = k && eqb (s .refused) 0
+
+-- behind an arm: the next one stands behind its Elif
+abbrev pub nextArm : ℕ → Done → Done
+nextArm e p = cond (eqb e 0) p (record { cont = p .cont + 2; body = p .body + 0; lbl = p .lbl; low = p .low })
 
 -- an else opens a label for the end
 abbrev pub endLabel : ℕ → ℕ → ℕ
@@ -104,9 +142,9 @@ pub record Pops (k : Bool) (ps : List ℕ) (r n : ℕ) (s : Low) (buf : List ℕ
 abbrev pub fnHead : ℕ → List ℕ → ℕ → ℕ → Place → List Event
 fnHead f ps n r w = replicate (length ps) Reg ++ (push w n (Fn f ps) ∷ lowerPops ps w n r)
 
-pub record FnHead (c b : List ℕ) (p : Done) (buf : List ℕ) (d : Done) (buf′ : List ℕ) : Type 0 where
-  pub made : (f : ℕ) (ps : List ℕ) (t : Stmts) → At (statements (p .lbl)) (FnDecl f ps t) (drop (p .cont) c) (drop (p .body) b) → (w : Place)
-      → Made (fnHead f ps (p .lbl) (p .low .reg) (declaring w)) (p .cont + (2 + 2 * length ps)) (p .body + (1 + length ps)) (p .lbl) (p .low) buf d buf′
+pub record FnHead (c b : List ℕ) (n : ℕ) (s : Low) (buf : List ℕ) (d : Done) (buf′ : List ℕ) : Type 0 where
+  pub made : (f : ℕ) (ps : List ℕ) (t : Stmts) → At (statements n) (FnDecl f ps t) c b → (w : Place)
+      → Made (fnHead f ps n (s .reg) (declaring w)) (2 + 2 * length ps) (1 + length ps) n s buf d buf′
 
 abbrev pub paramItems : List ℕ → List ℕ
 paramItems ps = concat (map itemBytes (map Str ps))

@@ -1,35 +1,38 @@
 -- If: its arms and their rest.
-use Prim.Native.Nat.{ℕ, suc, _+_, _≤_, _<_, _^_}
+use Prim.Native.Nat.{ℕ, suc, _+_, _-_, _*_, _≤_, _<_, _^_}
 use mathlib.Core.Path.{_≡_, refl, sym, ap, _∙_}
-use mathlib.Core.Bool.{Bool, true, false, _&&_}
+use mathlib.Core.Bool.{Bool, true, false, cond, _&&_}
 use mathlib.Core.List.{List, [], _∷_, _++_, append-assoc}
 use native.Mathlib.Omega.{arith}
 use lib.Dec.{T}
 use lib.ListN.{length, drop, getD}
 use mir.Facts.{and-yes}
 use borrow.Author.Tests.{eq-eqb, ne-eqb}
-use Rattle.opc.specs.Op.{Jmpf, JmpCnd, Jmpa, Nop}
+use Rattle.lent.specs.Bytes.{beValue, beBytes, part, splice}
+use Rattle.opc.specs.Op.{Jmpf, JmpCnd, Jmpa, Nop, instr}
 use Rattle.ast.specs.Tree.{Expr, Stmt, Block, IfStmt, Stmts, noStmts, moreStmts, Rest, Else, Elif}
 use Rattle.ast.specs.Node.{Node}
 use Rattle.ast.specs.Flat.{flatExpr, flatStmt, flatRest, stmtCount, elifCount, entryBytes, bodyBytes}
 use Rattle.ast.specs.Limits.{everyExpr, every, everyRest}
 use Rattle.compiler.specs.Lower.{Place, Event, push, prev, orNop, exprRegs, stmtsRegs, stmtLabels, stmtsLabels, restLabels, elseLabels, lowerExpr, lowerStmt, lowerStmts, lowerRest}
+use Rattle.emit.specs.declared.Low.{Low}
 use Rattle.emit.specs.declared.Done.{Done}
-use Rattle.emit.specs.inner.Run.{kept, Ready, Did}
-use Rattle.emit.specs.inner.Made.{Spells, Made, At, ReadsAt, Goes}
-use Rattle.emit.specs.laws.Laws.{did-then, did-as}
-use Rattle.emit.specs.laws.Spell.{first, second-from}
+use Rattle.emit.specs.inner.Run.{kept, afterEvents, wrote, Ready, Did}
+use Rattle.emit.specs.inner.Made.{Spells, Made, At, Reads, Front, ReadsAt, Goes}
+use Rattle.emit.specs.laws.Laws.{did-then, did-as, ready-did, after-decls, some-place}
+use Rattle.emit.specs.laws.Spell.{in-node, first, second-from, first-body, fits-bodies}
 use Rattle.emit.specs.laws.Regs.{expr-regs}
 use Rattle.emit.specs.laws.Places.{made-as, made-start, made-reads, made-goes, made-ready, made-kept}
 use Rattle.expr.specs.inner.Parts.{exprs}
-use Rattle.stmt.specs.inner.Parts.{anyText, fits, ArmPart, whole-if, Emitted, retarget, endLabel, statements, lists, arms, rests}
+use Rattle.stmt.specs.inner.Parts.{anyText, fits, ArmPart, whole-if, HeadPart, Emitted, retarget, written, endLabel, statements, lists, arms, heads, rests}
 use Rattle.stmt.specs.laws.Regs.{block-regs}
-use Rattle.stmt.specs.laws.Patch.{Next, did-at, next-did, arm-did}
+use Rattle.stmt.specs.laws.Patch.{Next, did-at, next-did, did-first, head-did, end-did, retarget-last, written-word}
+use Rattle.stmt.specs.laws.Ends.{Same, did-same, did-grows}
 use Rattle.stmt.specs.laws.Leaves.{emitted-ready, emitted-lbl, emitted-cont, emitted-body}
-use Rattle.stmt.specs.laws.Kinds.{Is, is-if, kind-here, stmt-size, expr-size, entries-both, bodies-both, in-at, count-at, body-here, reads-nodes, reads-bodies, goes-ready, goes-cont, goes-body, goes-lbl}
-use Rattle.compiler.specs.laws.Events.{else-labels}
+use Rattle.stmt.specs.laws.Kinds.{Is, is-if, Whole, read-as, made-as-kind, stmt-room, block-kind, expr-size, entries-both, bodies-both, in-at, count-here, reads-nodes, reads-bodies, goes-ready, goes-cont, goes-body, goes-lbl}
+use Rattle.compiler.specs.laws.Events.{regsIn, regs-append, else-labels}
 
--- ---- the parts of an arm
+-- ---- the parts of an arm alone
 
 abbrev E : List Node → ℕ
 E ns = length (entryBytes ns)
@@ -37,38 +40,22 @@ E ns = length (entryBytes ns)
 abbrev B : List Node → ℕ
 B ns = length (bodyBytes ns)
 
-module _ (c b : List ℕ) (u v l e m : ℕ) (t : ArmPart) (h : At (arms l e m) t (drop u c) (drop v b)) where
-  arm-fits : T (everyExpr anyText fits (t .test)) × T (every anyText fits (t .body)) × T (everyRest anyText fits (t .rest))
-  arm-fits =
-      let p = and-yes (everyExpr anyText fits (t .test)) (every anyText fits (t .body) && everyRest anyText fits (t .rest)) (h .ok .2) in
-      let q = and-yes (every anyText fits (t .body)) (everyRest anyText fits (t .rest)) (p .1) in
-      (p .0, q .0, q .1)
-
-  arm-test : At exprs (t .test) (drop u c) (drop v b)
-  arm-test = record { spells = first (flatExpr (t .test)) (flatStmt (Block (t .body)) ++ flatRest (t .rest)) (h .spells); ok = arm-fits .0 }
-
-  arm-behind : Spells (flatStmt (Block (t .body)) ++ flatRest (t .rest)) (drop (u + E (flatExpr (t .test))) c) (drop (v + B (flatExpr (t .test))) b)
-  arm-behind = second-from (flatExpr (t .test)) (flatStmt (Block (t .body)) ++ flatRest (t .rest)) u v c b (h .spells)
+module _ (c b : List ℕ) (u v l x : ℕ) (t : HeadPart) (h : At (heads l x) t (drop u c) (drop v b)) where
+  head-test : At exprs (t .test) (drop u c) (drop v b)
+  head-test = record { spells = first (flatExpr (t .test)) (flatStmt (Block (t .body))) (h .spells); ok = h .ok .0 }
 
   -- its Block, from the label n on
-  arm-block : (n : ℕ) → n ≡ l + 1 → At (statements n) (Block (t .body)) (drop (u + E (flatExpr (t .test))) c) (drop (v + B (flatExpr (t .test))) b)
-  arm-block n q = record { spells = first (flatStmt (Block (t .body))) (flatRest (t .rest)) arm-behind; ok = (arm-fits .1, omega (arith, q, h .ok .3)) }
-
-  arm-rest : (n : ℕ) → n ≡ l + 1 + stmtsLabels (t .body) + 1
-      → At (rests n e m) (t .rest) (drop (u + E (flatExpr (t .test)) + E (flatStmt (Block (t .body)))) c) (drop (v + B (flatExpr (t .test)) + B (flatStmt (Block (t .body)))) b)
-  arm-rest n q = record {
-    spells = second-from (flatStmt (Block (t .body))) (flatRest (t .rest)) (u + E (flatExpr (t .test))) (v + B (flatExpr (t .test))) c b arm-behind;
-    ok = (h .ok .0, h .ok .1, arm-fits .2, omega (arith, q, h .ok .3));
-  }
+  head-block : (n : ℕ) → n ≡ l + 1 → At (statements n) (Block (t .body)) (drop (u + E (flatExpr (t .test))) c) (drop (v + B (flatExpr (t .test))) b)
+  head-block n q = record { spells = second-from (flatExpr (t .test)) (flatStmt (Block (t .body))) u v c b (h .spells); ok = (h .ok .1, omega (arith, q, h .ok .2)) }
 
 -- ---- `arm`: what its steps ask, for the arm that is read
 
-module _ (e m : ℕ) (c b : List ℕ) (p : Done) {buf : List ℕ} (h : ReadsAt (arms (p .lbl) e m) c b p buf) where
+module _ (x : ℕ) (c b : List ℕ) (p : Done) {buf : List ℕ} (h : ReadsAt (heads (p .lbl) x) c b p buf) where
   pub arm-reads : ReadsAt exprs c b p buf
-  arm-reads = record { ready = h .ready; cont = h .cont; body = h .body; tree = h .tree .test; spelt = arm-test c b (p .cont) (p .body) (p .lbl) e m (h .tree) (h .spelt) }
+  arm-reads = record { ready = h .ready; cont = h .cont; body = h .body; tree = h .tree .test; spelt = head-test c b (p .cont) (p .body) (p .lbl) x (h .tree) (h .spelt) }
 
-  pub arm-label : p .lbl + 1 < 2 ^ 64
-  arm-label = omega (arith, h .spelt .ok .3)
+  arm-label : p .lbl + 1 < 2 ^ 64
+  arm-label = omega (arith, h .spelt .ok .2)
 
   module _ {k : Bool} {t : Done} {buf₁ : List ℕ} (g₁ : Goes exprs c b k p buf t buf₁) where
     pub test-ready : Ready (t .low) buf₁
@@ -94,13 +81,14 @@ module _ (e m : ℕ) (c b : List ℕ) (p : Done) {buf : List ℕ} (h : ReadsAt (
       pub jump-ready : Ready (j .low) buf₂
       jump-ready = emitted-ready g₂ test-ready
 
-      arm-sizes : (p .cont + (E (flatExpr (h .tree .test)) + (E (flatStmt (Block (h .tree .body))) + E (flatRest (h .tree .rest)))) ≤ length c)
-          × (p .body + (B (flatExpr (h .tree .test)) + (B (flatStmt (Block (h .tree .body))) + B (flatRest (h .tree .rest)))) ≤ length b)
+      arm-sizes : (p .cont + (E (flatExpr (h .tree .test)) + E (flatStmt (Block (h .tree .body)))) ≤ length c) × (p .body + (B (flatExpr (h .tree .test)) + B (flatStmt (Block (h .tree .body)))) ≤ length b)
       arm-sizes =
           let t = flatExpr (h .tree .test) in
           let s = flatStmt (Block (h .tree .body)) in
-          let r = flatRest (h .tree .rest) in
-          (omega (arith, reads-nodes (arms (p .lbl) e m) h, entries-both t (s ++ r), entries-both s r), omega (arith, reads-bodies (arms (p .lbl) e m) h, bodies-both t (s ++ r), bodies-both s r))
+          (omega (arith, reads-nodes (heads (p .lbl) x) h, entries-both t s), omega (arith, reads-bodies (heads (p .lbl) x) h, bodies-both t s))
+
+      arm-block-at : At (statements (j .lbl)) (Block (h .tree .body)) (drop (j .cont) c) (drop (j .body) b)
+      arm-block-at = rw (jump-cont, jump-body) (head-block c b (p .cont) (p .body) (p .lbl) x (h .tree) (h .spelt) (j .lbl) jump-label)
 
       pub arm-block-reads : ReadsAt (statements (j .lbl)) c b j buf₂
       arm-block-reads = record {
@@ -108,8 +96,11 @@ module _ (e m : ℕ) (c b : List ℕ) (p : Done) {buf : List ℕ} (h : ReadsAt (
         cont = omega (arith, jump-cont, arm-sizes .0);
         body = omega (arith, jump-body, arm-sizes .1);
         tree = Block (h .tree .body);
-        spelt = rw (jump-cont, jump-body) (arm-block c b (p .cont) (p .body) (p .lbl) e m (h .tree) (h .spelt) (j .lbl) jump-label);
+        spelt = arm-block-at;
       }
+
+      pub arm-block-kind : getD c (j .cont) 0 ≡ 2
+      arm-block-kind = block-kind (h .tree .body) c b (j .cont) (j .body) (arm-block-at .spells)
 
       -- the Block stands behind the condition
       pub arm-falls : (p .cont < j .cont) × (j .cont ≤ length c)
@@ -124,49 +115,24 @@ module _ (e m : ℕ) (c b : List ℕ) (p : Done) {buf : List ℕ} (h : ReadsAt (
         block-ready = goes-ready (statements (j .lbl)) arm-block-reads g₃
 
         pub block-room : d .lbl + 1 < 2 ^ 64
-        block-room = omega (arith, block-label, h .spelt .ok .3)
+        block-room = omega (arith, block-label, h .spelt .ok .2)
 
-        module _ {x : Done} {buf₄ : List ℕ} (g₄ : Emitted (λ w. push w (d .lbl) (Jmpa 0) ∷ []) (d .lbl + 1) k d buf₃ x buf₄) where
-          pub end-ready : Ready (x .low) buf₄
-          end-ready = emitted-ready g₄ block-ready
-
-          end-cont : x .cont ≡ p .cont + E (flatExpr (h .tree .test)) + E (flatStmt (Block (h .tree .body)))
-          unfolding arm-block-reads
-          end-cont = emitted-cont g₄ ∙ goes-cont (statements (j .lbl)) arm-block-reads g₃ ∙ ap (λ (i : ℕ). i + E (flatStmt (Block (h .tree .body)))) jump-cont
-
-          end-body : x .body ≡ p .body + B (flatExpr (h .tree .test)) + B (flatStmt (Block (h .tree .body)))
-          unfolding arm-block-reads
-          end-body = emitted-body g₄ ∙ goes-body (statements (j .lbl)) arm-block-reads g₃ ∙ ap (λ (i : ℕ). i + B (flatStmt (Block (h .tree .body)))) jump-body
-
-          pub rest-reads : {buf₅ : List ℕ} → length buf₅ ≡ length buf₄ → ReadsAt (rests (x .lbl) e m) c b x buf₅
-          rest-reads q = record {
-            ready = record { registers = end-ready .registers; pushed = end-ready .pushed; records = end-ready .records; pool = end-ready .pool; room = omega (arith, q, end-ready .room) };
-            cont = omega (arith, end-cont, arm-sizes .0);
-            body = omega (arith, end-body, arm-sizes .1);
-            tree = h .tree .rest;
-            spelt = rw (end-cont, end-body) (arm-rest c b (p .cont) (p .body) (p .lbl) e m (h .tree) (h .spelt) (x .lbl) (emitted-lbl g₄ ∙ ap (λ (i : ℕ). i + 1) block-label));
-          }
-
-          pub rest-falls : (p .cont < x .cont) × (x .cont ≤ length c)
-          rest-falls = (omega (arith, end-cont, expr-size (h .tree .test)), omega (arith, end-cont, arm-sizes .0))
-
-          -- the records only grow
-          pub rest-ready : {buf₅ : List ℕ} {r : Done} {buf₆ : List ℕ} → length buf₅ ≡ length buf₄ → Goes (rests (x .lbl) e m) c b k x buf₅ r buf₆ → Ready (r .low) buf₆
-          rest-ready q g = goes-ready (rests (x .lbl) e m) (rest-reads q) g
+        pub end-ready : {e : Done} {buf₄ : List ℕ} → Emitted (λ w. push w (d .lbl) (Jmpa x) ∷ []) (d .lbl + 1) k d buf₃ e buf₄ → Ready (e .low) buf₄
+        end-ready g₄ = emitted-ready g₄ block-ready
 
 -- ---- what they give, for any arm
 
-module _ (e m : ℕ) (c b : List ℕ) (p : Done) {buf : List ℕ} (rdy : Ready (p .low) buf) {k : Bool} {t j d x r : Done} {buf₁ buf₂ buf₃ buf₄ buf₅ buf₆ buf₇ : List ℕ}
+module _ (x : ℕ) (c b : List ℕ) (p : Done) {buf : List ℕ} (rdy : Ready (p .low) buf) {k : Bool} {t j d e : Done} {buf₁ buf₂ buf₃ buf₄ buf₅ : List ℕ}
     (g₁ : Goes exprs c b k p buf t buf₁) (g₂ : Emitted (λ w. push w (t .lbl) (JmpCnd Jmpf (prev (t .low .reg)) 0) ∷ []) (t .lbl + 1) k t buf₁ j buf₂)
-    (g₃ : Goes (statements (j .lbl)) c b k j buf₂ d buf₃) (g₄ : Emitted (λ w. push w (d .lbl) (Jmpa 0) ∷ []) (d .lbl + 1) k d buf₃ x buf₄)
-    (e₅ : buf₅ ≡ retarget (t .low) (j .low) (x .lbl) buf₄) (g₆ : Goes (rests (x .lbl) e m) c b k x buf₅ r buf₆) (e₇ : buf₇ ≡ retarget (d .low) (x .low) (r .lbl) buf₆) where
-  arm-made : (a : ArmPart) → At (arms (p .lbl) e m) a (drop (p .cont) c) (drop (p .body) b) → (w : Place) → k ≡ kept (p .low .decls) (w .section)
-      → Made (lowerStmt (whole-if a) w (p .lbl) (p .low .reg)) (p .cont + E (arms (p .lbl) e m .nodes a)) (p .body + B (arms (p .lbl) e m .nodes a)) (p .lbl + stmtLabels (whole-if a)) (p .low) buf r buf₇
+    (g₃ : Goes (statements (j .lbl)) c b k j buf₂ d buf₃) (g₄ : Emitted (λ w. push w (d .lbl) (Jmpa x) ∷ []) (d .lbl + 1) k d buf₃ e buf₄)
+    (e₅ : buf₅ ≡ retarget (t .low) (j .low) (e .lbl) buf₄) where
+  arm-made : (a : HeadPart) → At (heads (p .lbl) x) a (drop (p .cont) c) (drop (p .body) b) → (w : Place) → k ≡ kept (p .low .decls) (w .section)
+      → Made (heads (p .lbl) x .emits a w (p .lbl) (p .low .reg)) (p .cont + E (heads (p .lbl) x .nodes a)) (p .body + B (heads (p .lbl) x .nodes a)) (heads (p .lbl) x .next a (p .lbl)) (p .low) buf e buf₅
   arm-made a h w kw =
       let n = p .lbl in
       let q = p .low .reg + exprRegs (a .test) in
       let l = n + 1 + stmtsLabels (a .body) in
-      let m₁ = g₁ .goes (a .test) (arm-test c b (p .cont) (p .body) n e m a h) w kw in
+      let m₁ = g₁ .goes (a .test) (head-test c b (p .cont) (p .body) n x a h) w kw in
       let k₁ = made-kept m₁ w kw in
       let x₁ : Next (t .low) q = next-did {q = p .low .reg} (λ z. refl) (ap (λ (i : ℕ). p .low .reg + i) (sym (expr-regs (a .test) w n (p .low .reg)))) (m₁ .did) in
       let m₂ = g₂ .made w k₁ in
@@ -177,81 +143,163 @@ module _ (e m : ℕ) (c b : List ℕ) (p : Done) {buf : List ℕ} (rdy : Ready (
       let l₂ : j .lbl ≡ n + 1 = m₂ .lbl ∙ ap (λ (i : ℕ). i + 1) (m₁ .lbl) in
       let c₂ : j .cont ≡ p .cont + E (flatExpr (a .test)) = m₂ .cont ∙ m₁ .cont in
       let b₂ : j .body ≡ p .body + B (flatExpr (a .test)) = m₂ .body ∙ m₁ .body in
-      let m₃ = g₃ .goes (Block (a .body)) (rw (c₂, b₂) (arm-block c b (p .cont) (p .body) n e m a h (j .lbl) l₂)) w k₂ in
+      let m₃ = g₃ .goes (Block (a .body)) (rw (c₂, b₂) (head-block c b (p .cont) (p .body) n x a h (j .lbl) l₂)) w k₂ in
       let k₃ = made-kept m₃ w k₂ in
       let bs : ℕ → ℕ → List Event = λ i z. orNop (a .body) w i (lowerStmts (a .body) w i z) in
       let d₃ : Did (bs (n + 1) q) (j .low) buf₂ (d .low) buf₃ = did-at (λ i. bs (n + 1) i) x₂ (rw l₂ at (m₃ .did)) in
-      let x₃ : Next (d .low) (q + stmtsRegs (a .body)) = next-did {q = q} x₂ (ap (λ (i : ℕ). q + i) (sym (block-regs (a .body) w (n + 1) q))) d₃ in
       let l₃ : d .lbl ≡ l = m₃ .lbl ∙ ap (λ (i : ℕ). i + stmtsLabels (a .body)) l₂ in
       let m₄ = g₄ .made w k₃ in
-      let k₄ = made-kept m₄ w k₃ in
-      let d₄ : Did (push w l (Jmpa 0) ∷ []) (d .low) buf₃ (x .low) buf₄ = rw l₃ at (m₄ .did) in
-      let x₄ : Next (x .low) (q + stmtsRegs (a .body)) = next-did {q = q + stmtsRegs (a .body)} x₃ (omega arith) d₄ in
-      let l₄ : x .lbl ≡ l + 1 = m₄ .lbl ∙ ap (λ (i : ℕ). i + 1) l₃ in
-      let c₄ : x .cont ≡ p .cont + E (flatExpr (a .test)) + E (flatStmt (Block (a .body))) = m₄ .cont ∙ m₃ .cont ∙ ap (λ (i : ℕ). i + E (flatStmt (Block (a .body)))) c₂ in
-      let b₄ : x .body ≡ p .body + B (flatExpr (a .test)) + B (flatStmt (Block (a .body))) = m₄ .body ∙ m₃ .body ∙ ap (λ (i : ℕ). i + B (flatStmt (Block (a .body)))) b₂ in
-      let m₆ = g₆ .goes (a .rest) (rw (c₄, b₄) (arm-rest c b (p .cont) (p .body) n e m a h (x .lbl) l₄)) w k₄ in
-      let end = l + 1 + restLabels (a .rest) in
-      let rs : ℕ → ℕ → List Event = λ i z. lowerRest (a .rest) w i z (i + restLabels (a .rest)) in
-      let d₆ : Did (rs (l + 1) (q + stmtsRegs (a .body))) (x .low) buf₅ (r .low) buf₆ = did-at (λ z. rs (l + 1) z) x₄ (rw l₄ at (m₆ .did)) in
-      let l₆ : r .lbl ≡ end = m₆ .lbl ∙ ap (λ (i : ℕ). i + restLabels (a .rest)) l₄ in
-      let run = arm-did w n (prev q) l (l + 1) end Jmpf (made-ready m₁ rdy) d₂ d₃ d₄ (e₅ ∙ ap (λ (i : ℕ). retarget (t .low) (j .low) i buf₄) l₄) d₆ (e₇ ∙ ap (λ (i : ℕ). retarget (d .low) (x .low) i buf₆) l₆) in
-      let C = lowerExpr (a .test) w n (p .low .reg) in
-      let J = push w n (JmpCnd Jmpf (prev q) (l + 1)) in
-      let A = push w l (Jmpa end) in
-      let R = rs (l + 1) (q + stmtsRegs (a .body)) in
+      let d₄ : Did (push w l (Jmpa x) ∷ []) (d .low) buf₃ (e .low) buf₄ = rw l₃ at (m₄ .did) in
+      let l₄ : e .lbl ≡ l + 1 = m₄ .lbl ∙ ap (λ (i : ℕ). i + 1) l₃ in
+      let run = head-did w n (prev q) l (l + 1) x Jmpf (made-ready m₁ rdy) d₂ d₃ d₄ (e₅ ∙ ap (λ (i : ℕ). retarget (t .low) (j .low) i buf₄) l₄) in
       record {
-        cont = m₆ .cont ∙ ap (λ (i : ℕ). i + E (flatRest (a .rest))) c₄ ∙ omega (arith, entries-both (flatExpr (a .test)) (flatStmt (Block (a .body)) ++ flatRest (a .rest)), entries-both (flatStmt (Block (a .body))) (flatRest (a .rest)));
-        body = m₆ .body ∙ ap (λ (i : ℕ). i + B (flatRest (a .rest))) b₄ ∙ omega (arith, bodies-both (flatExpr (a .test)) (flatStmt (Block (a .body)) ++ flatRest (a .rest)), bodies-both (flatStmt (Block (a .body))) (flatRest (a .rest)));
-        lbl = l₆ ∙ omega arith;
-        did = did-as (sym (append-assoc C (J ∷ (bs (n + 1) q ++ (A ∷ []))) R ∙ ap (λ (y : List Event). C ++ (J ∷ y)) (append-assoc (bs (n + 1) q) (A ∷ []) R))) (did-then (m₁ .did) run);
+        cont = m₄ .cont ∙ m₃ .cont ∙ ap (λ (i : ℕ). i + E (flatStmt (Block (a .body)))) c₂ ∙ omega (arith, entries-both (flatExpr (a .test)) (flatStmt (Block (a .body))));
+        body = m₄ .body ∙ m₃ .body ∙ ap (λ (i : ℕ). i + B (flatStmt (Block (a .body)))) b₂ ∙ omega (arith, bodies-both (flatExpr (a .test)) (flatStmt (Block (a .body))));
+        lbl = l₄;
+        did = did-then (m₁ .did) run;
       }
 
-  pub arm-goes : Goes (arms (p .lbl) e m) c b k p buf r buf₇
+  pub arm-goes : Goes (heads (p .lbl) x) c b k p buf e buf₅
   arm-goes = record { goes = arm-made }
+
+-- ---- an arm and its rest
+
+module _ (c b : List ℕ) (u v l e m : ℕ) (t : ArmPart) (h : At (arms l e m) t (drop u c) (drop v b)) where
+  arm-fits : T (everyExpr anyText fits (t .test)) × T (every anyText fits (t .body)) × T (everyRest anyText fits (t .rest))
+  arm-fits =
+      let p = and-yes (everyExpr anyText fits (t .test)) (every anyText fits (t .body) && everyRest anyText fits (t .rest)) (h .ok .2) in
+      let q = and-yes (every anyText fits (t .body)) (everyRest anyText fits (t .rest)) (p .1) in
+      (p .0, q .0, q .1)
+
+  arm-split : Spells ((flatExpr (t .test) ++ flatStmt (Block (t .body))) ++ flatRest (t .rest)) (drop u c) (drop v b)
+  arm-split = rw (append-assoc (flatExpr (t .test)) (flatStmt (Block (t .body))) (flatRest (t .rest))) (h .spells)
+
+  pub arm-head : (x : ℕ) → At (heads l x) (record { test = t .test; body = t .body }) (drop u c) (drop v b)
+  arm-head x = record { spells = first (flatExpr (t .test) ++ flatStmt (Block (t .body))) (flatRest (t .rest)) arm-split; ok = (arm-fits .0, arm-fits .1, omega (arith, h .ok .3)) }
+
+  pub arm-rest : (n : ℕ) → n ≡ l + 1 + stmtsLabels (t .body) + 1
+      → At (rests n e m) (t .rest) (drop (u + E (flatExpr (t .test) ++ flatStmt (Block (t .body)))) c) (drop (v + B (flatExpr (t .test) ++ flatStmt (Block (t .body)))) b)
+  arm-rest n q = record {
+    spells = second-from (flatExpr (t .test) ++ flatStmt (Block (t .body))) (flatRest (t .rest)) u v c b arm-split;
+    ok = (h .ok .0, h .ok .1, arm-fits .2, omega (arith, q, h .ok .3));
+  }
+
+module _ (e m x : ℕ) {c b : List ℕ} {p : Done} {buf : List ℕ} where
+  pub head-reads : ReadsAt (arms (p .lbl) e m) c b p buf → ReadsAt (heads (p .lbl) x) c b p buf
+  head-reads h = record { ready = h .ready; cont = h .cont; body = h .body; tree = record { test = h .tree .test; body = h .tree .body }; spelt = arm-head c b (p .cont) (p .body) (p .lbl) e m (h .tree) (h .spelt) x }
+
+  module _ {k : Bool} {a : Done} {buf₁ : List ℕ} (g : Goes (heads (p .lbl) x) c b k p buf a buf₁) where
+    pub rest-reads : ReadsAt (arms (p .lbl) e m) c b p buf → ReadsAt (rests (a .lbl) e m) c b a buf₁
+    unfolding head-reads
+    rest-reads h =
+        let P = heads (p .lbl) x in
+        let f = head-reads h in
+        let ns = flatExpr (h .tree .test) ++ flatStmt (Block (h .tree .body)) in
+        let ec : a .cont ≡ p .cont + E ns = goes-cont P f g in
+        let eb : a .body ≡ p .body + B ns = goes-body P f g in
+        record {
+          ready = goes-ready P f g;
+          cont = omega (arith, ec, reads-nodes P f);
+          body = omega (arith, eb, reads-bodies P f);
+          tree = h .tree .rest;
+          spelt = rw (ec, eb) (arm-rest c b (p .cont) (p .body) (p .lbl) e m (h .tree) (h .spelt) (a .lbl) (goes-lbl P f g));
+        }
+
+    -- the jump to the end gets its target behind all the others
+    pub arms-goes : Ready (p .low) buf → {r : Done} {buf₂ : List ℕ} → Goes (rests (a .lbl) e m) c b k a buf₁ r buf₂
+        → Goes (arms (p .lbl) e m) c b k p buf r (cond (written k (a .low)) (splice buf₂ (16 * (a .low .recs - 1) + 8) (beBytes 8 (r .lbl))) buf₂)
+    arms-goes rdy {r} {buf₂} g₂ = record { goes = λ t h w kw. by-tree t h w kw }
+      where
+        by-tree : (t : ArmPart) → At (arms (p .lbl) e m) t (drop (p .cont) c) (drop (p .body) b) → (w : Place) → k ≡ kept (p .low .decls) (w .section)
+            → Made (lowerStmt (whole-if t) w (p .lbl) (p .low .reg)) (p .cont + E (arms (p .lbl) e m .nodes t)) (p .body + B (arms (p .lbl) e m .nodes t)) (p .lbl + stmtLabels (whole-if t)) (p .low) buf r
+            (cond (written k (a .low)) (splice buf₂ (16 * (a .low .recs - 1) + 8) (beBytes 8 (r .lbl))) buf₂)
+        by-tree t h w kw =
+            let n = p .lbl in
+            let q₀ = p .low .reg in
+            let q = q₀ + exprRegs (t .test) in
+            let l = n + 1 + stmtsLabels (t .body) in
+            let bs = orNop (t .body) w (n + 1) (lowerStmts (t .body) w (n + 1) q) in
+            let C = lowerExpr (t .test) w n q₀ in
+            let J = push w n (JmpCnd Jmpf (prev q) (l + 1)) in
+            let H = C ++ (J ∷ bs) in
+            let m₁ = g .goes (record { test = t .test; body = t .body }) (arm-head c b (p .cont) (p .body) n e m t h x) w kw in
+            let d₁ : Did (H ++ (push w l (Jmpa x) ∷ [])) (p .low) buf (a .low) buf₁ = did-as (sym (append-assoc C (J ∷ bs) (push w l (Jmpa x) ∷ []))) (m₁ .did) in
+            let es : regsIn (C ++ (J ∷ (bs ++ (push w l (Jmpa x) ∷ [])))) ≡ exprRegs (t .test) + stmtsRegs (t .body) =
+            omega (arith, regs-append C (J ∷ (bs ++ (push w l (Jmpa x) ∷ []))), regs-append bs (push w l (Jmpa x) ∷ []), expr-regs (t .test) w n q₀, block-regs (t .body) w (n + 1) q) in
+            let x₁ : Next (a .low) (q + stmtsRegs (t .body)) = next-did {q = q₀} (λ z. refl) (omega (arith, es)) (m₁ .did) in
+            let k₁ = made-kept m₁ w kw in
+            let ns = flatExpr (t .test) ++ flatStmt (Block (t .body)) in
+            let m₂ = g₂ .goes (t .rest) (rw (m₁ .cont, m₁ .body) (arm-rest c b (p .cont) (p .body) n e m t h (a .lbl) (m₁ .lbl))) w k₁ in
+            let end = l + 1 + restLabels (t .rest) in
+            let rs : ℕ → ℕ → List Event = λ i z. lowerRest (t .rest) w i z (i + restLabels (t .rest)) in
+            let R = rs (l + 1) (q + stmtsRegs (t .body)) in
+            let d₂ : Did R (a .low) buf₁ (r .low) buf₂ = did-at (λ z. rs (l + 1) z) x₁ (rw (m₁ .lbl) at (m₂ .did)) in
+            let l₂ : r .lbl ≡ end = m₂ .lbl ∙ ap (λ (i : ℕ). i + restLabels (t .rest)) (m₁ .lbl) in
+            let A = push w l (Jmpa end) in
+            let last : Did (push w l (Jmpa x) ∷ []) (afterEvents H (p .low)) (wrote H (p .low) buf) (a .low) buf₁ = did-first H (push w l (Jmpa x) ∷ []) d₁ in
+            let kh : k ≡ kept (afterEvents H (p .low) .decls) (w .section) = kw ∙ ap (λ (z : Bool). kept z (w .section)) (sym (after-decls H (p .low))) in
+            let patch = ap (λ (i : ℕ). cond (written k (a .low)) (splice buf₂ (16 * (a .low .recs - 1) + 8) (beBytes 8 i)) buf₂) l₂ ∙ sym (retarget-last w (instr l (Jmpa x)) refl kh last end buf₂) in
+            let run : Did (H ++ (A ∷ R)) (p .low) buf (r .low) _ = end-did w l x end H rdy d₁ d₂ patch in
+            record {
+              cont = m₂ .cont ∙ ap (λ (i : ℕ). i + E (flatRest (t .rest))) (m₁ .cont) ∙ omega (arith, entries-both ns (flatRest (t .rest)), entries-both (flatExpr (t .test)) (flatStmt (Block (t .body))), entries-both (flatExpr (t .test)) (flatStmt (Block (t .body)) ++ flatRest (t .rest)), entries-both (flatStmt (Block (t .body))) (flatRest (t .rest)));
+              body = m₂ .body ∙ ap (λ (i : ℕ). i + B (flatRest (t .rest))) (m₁ .body) ∙ omega (arith, bodies-both ns (flatRest (t .rest)), bodies-both (flatExpr (t .test)) (flatStmt (Block (t .body))), bodies-both (flatExpr (t .test)) (flatStmt (Block (t .body)) ++ flatRest (t .rest)), bodies-both (flatStmt (Block (t .body))) (flatRest (t .rest)));
+              lbl = l₂ ∙ omega arith;
+              did = did-as (sym (append-assoc H (A ∷ []) R) ∙ ap (λ (y : List Event). y ++ R) (append-assoc C (J ∷ bs) (A ∷ []))) run;
+            }
+
+    -- what it leaves behind: the words of the records before it, and of its own jump
+    pub arm-leaves : ReadsAt (heads (p .lbl) x) c b p buf → x < 2 ^ 64 → (p .low .recs ≤ a .low .recs) × Same (p .low .recs) buf buf₁
+        × (written k (a .low) ≡ true → (p .low .recs + 1 ≤ a .low .recs) × (a .low .recs - 1 < 1024) × (beValue (part buf₁ (16 * (a .low .recs - 1) + 8) 8) ≡ x))
+    arm-leaves f lt =
+        let w = some-place k (p .low .decls) in
+        let t = f .tree in
+        let n = p .lbl in
+        let q = p .low .reg + exprRegs (t .test) in
+        let l = n + 1 + stmtsLabels (t .body) in
+        let C = lowerExpr (t .test) (w .0) n (p .low .reg) in
+        let bs = orNop (t .body) (w .0) (n + 1) (lowerStmts (t .body) (w .0) (n + 1) q) in
+        let J = push (w .0) n (JmpCnd Jmpf (prev q) (l + 1)) in
+        let H = C ++ (J ∷ bs) in
+        let A = push (w .0) l (Jmpa x) in
+        let d = g .goes t (f .spelt) (w .0) (w .1) .did in
+        let d₁ : Did (H ++ (A ∷ [])) (p .low) buf (a .low) buf₁ = did-as (sym (append-assoc C (J ∷ bs) (A ∷ []))) d in
+        let front : Did H (p .low) buf (afterEvents H (p .low)) (wrote H (p .low) buf) = record { state = refl; buffer = refl } in
+        let kh : k ≡ kept (afterEvents H (p .low) .decls) (w .0 .section) = w .1 ∙ ap (λ (z : Bool). kept z (w .0 .section)) (sym (after-decls H (p .low))) in
+        let word = written-word (w .0) (instr l (Jmpa x)) refl kh (did-first H (A ∷ []) d₁) x (ready-did (f .ready) front) (λ y. refl) lt in
+        (did-grows d, did-same (f .ready) d, λ h. let y = word h in (omega (arith, did-grows front, y .0), y .1, y .2))
 
 -- ---- an If: its node, then its first arm
 
-abbrev Whole : Bool → Done → List ℕ → Done → List ℕ → Stmt → Type 0
-Whole k p buf r buf′ s =
-    (w : Place) → k ≡ kept (p .low .decls) (w .section)
-    → Made (lowerStmt s w (p .lbl) (p .low .reg)) (p .cont + E (flatStmt s)) (p .body + B (flatStmt s)) (p .lbl + stmtLabels s) (p .low) buf r buf′
+if-arm : {c b : List ℕ} {n : ℕ} {s : Low} {a : Done} → a ≡ record { cont = 2; body = 1; lbl = n; low = s } → (e m : ℕ) → e ≡ getD b 0 0 → 2 + e + m ≡ getD c 1 0 → (t : ArmPart) → At (statements n) (whole-if t) c b
+    → At (arms (a .lbl) e m) t (drop 2 c) (drop 1 b)
+if-arm q e m ee em t d =
+    let x : e ≡ elifCount (t .rest) = ee ∙ first-body (d .spells) in
+    record { spells = in-node (d .spells); ok = (x, omega (arith, x, em, count-here (d .spells)), d .ok .0, rw q (d .ok .1)) }
 
-if-arm : (c b : List ℕ) (p : Done) {a : Done} → a ≡ record { cont = p .cont + 2; body = p .body + 1; lbl = p .lbl; low = p .low } → (e m : ℕ) → e ≡ getD b (p .body) 0 → 2 + e + m ≡ getD c (p .cont + 1) 0 → (t : ArmPart)
-    → At (statements (p .lbl)) (whole-if t) (drop (p .cont) c) (drop (p .body) b) → At (arms (a .lbl) e m) t (drop (p .cont + 2) c) (drop (p .body + 1) b)
-if-arm c b p q e m ee em t d =
-    let x : e ≡ elifCount (t .rest) = ee ∙ body-here (p .cont) (p .body) c b (d .spells) in
-    record {
-      spells = in-at (p .cont) (p .body) c b (d .spells);
-      ok = (x, omega (arith, x, em, count-at (p .cont) (p .body) c b (d .spells)), d .ok .0, rw q (d .ok .1));
-    }
-
-module _ (c b : List ℕ) (p : Done) {buf : List ℕ} (z : getD c (p .cont) 0 ≡ 3) where
+module _ (n : ℕ) {c b : List ℕ} {s : Low} {buf : List ℕ} (z : getD c 0 0 ≡ 3) where
   -- the numbers of the Elifs and of the else statements
-  pub if-counts : ReadsAt (statements (p .lbl)) c b p buf → (2 + getD b (p .body) 0 ≤ getD c (p .cont + 1) 0) × (p .body + 1 ≤ length b)
-  if-counts h = by-kind (kind-here (h .tree) c b (p .cont) (p .body) (h .spelt .spells) z) (h .spelt) (reads-bodies (statements (p .lbl)) h)
+  pub if-counts : Reads (statements n) c b s buf → (2 + getD b 0 0 ≤ getD c 1 0) × (1 ≤ length b)
+  if-counts h = read-as n z (λ t i. by-kind i) h
     where
-      by-kind : {s : Stmt} → Is 3 s → At (statements (p .lbl)) s (drop (p .cont) c) (drop (p .body) b) → p .body + B (flatStmt s) ≤ length b → (2 + getD b (p .body) 0 ≤ getD c (p .cont + 1) 0) × (p .body + 1 ≤ length b)
-      by-kind is-if d l = (omega (arith, body-here (p .cont) (p .body) c b (d .spells), count-at (p .cont) (p .body) c b (d .spells)), omega (arith, l))
+      by-kind : {t : Stmt} → Is 3 t → At (statements n) t c b → (2 + getD b 0 0 ≤ getD c 1 0) × (1 ≤ length b)
+      by-kind is-if d = (omega (arith, first-body (d .spells), count-here (d .spells)), omega (arith, fits-bodies (d .spells)))
 
-  module _ {a : Done} (q : a ≡ record { cont = p .cont + 2; body = p .body + 1; lbl = p .lbl; low = p .low }) (e m : ℕ) (ee : e ≡ getD b (p .body) 0) (em : 2 + e + m ≡ getD c (p .cont + 1) 0) where
-    pub if-reads : ReadsAt (statements (p .lbl)) c b p buf → ReadsAt (arms (a .lbl) e m) c b a buf
-    if-reads h = by-kind (kind-here (h .tree) c b (p .cont) (p .body) (h .spelt .spells) z) (h .spelt)
+  module _ {a : Done} (q : a ≡ record { cont = 2; body = 1; lbl = n; low = s }) (e m : ℕ) (ee : e ≡ getD b 0 0) (em : 2 + e + m ≡ getD c 1 0) where
+    pub if-reads : Reads (statements n) c b s buf → ReadsAt (arms (a .lbl) e m) c b a buf
+    if-reads h = read-as n z (λ t i. by-kind i) h
       where
-        by-kind : {s : Stmt} → Is 3 s → At (statements (p .lbl)) s (drop (p .cont) c) (drop (p .body) b) → ReadsAt (arms (a .lbl) e m) c b a buf
-        by-kind (is-if {c = t} {b = y} {k = k}) d =
-            let r : ArmPart = record { test = t; body = y; rest = k } in
-            made-reads (made-start q) (arms (a .lbl) e m) r c b (if-arm c b p q e m ee em r d) (h .ready)
-            (omega (arith, reads-nodes (statements (p .lbl)) h, stmt-size (h .tree))) (omega (arith, if-counts h .1))
+        by-kind : {t : Stmt} → Is 3 t → At (statements n) t c b → ReadsAt (arms (a .lbl) e m) c b a buf
+        by-kind (is-if {c = x} {b = y} {k = i}) d =
+            let r : ArmPart = record { test = x; body = y; rest = i } in
+            made-reads (made-start q) (arms (a .lbl) e m) r c b (if-arm q e m ee em r d) (h .ready) (stmt-room n h) (if-counts h .1)
 
-    pub if-goes : {k : Bool} {r : Done} {buf′ : List ℕ} → Goes (arms (a .lbl) e m) c b k a buf r buf′ → Goes (statements (p .lbl)) c b k p buf r buf′
-    if-goes {k} {r} {buf′} g = record { goes = λ s d w kw. by-kind (kind-here s c b (p .cont) (p .body) (d .spells) z) d w kw }
+    pub if-front : {k : Bool} {r : Done} {buf′ : List ℕ} → Goes (arms (a .lbl) e m) c b k a buf r buf′ → Front (statements n) c b k n s buf r buf′
+    if-front {k} {r} {buf′} g = made-as-kind n z (λ t i. by-kind i)
       where
-        by-kind : {s : Stmt} → Is 3 s → At (statements (p .lbl)) s (drop (p .cont) c) (drop (p .body) b) → Whole k p buf r buf′ s
-        by-kind (is-if {c = t} {b = y} {k = i}) d w kw =
-            let x : ArmPart = record { test = t; body = y; rest = i } in
-            let f = made-goes (made-start q) (arms (a .lbl) e m) x c b (if-arm c b p q e m ee em x d) g w kw (p .low .reg) (omega arith) in
-            made-as refl (omega arith) (omega arith) (omega arith) f
+        by-kind : {t : Stmt} → Is 3 t → At (statements n) t c b → Whole k n s buf r buf′ t
+        by-kind (is-if {c = x} {b = y} {k = i}) d w kw =
+            let v : ArmPart = record { test = x; body = y; rest = i } in
+            made-as refl (omega arith) (omega arith) (omega arith) (made-goes (made-start q) (arms (a .lbl) e m) v c b (if-arm q e m ee em v d) g w kw (s .reg) (omega arith))
 
 -- ---- what follows a Block: an Elif is an arm, and else statements are a list
 
@@ -281,14 +329,6 @@ else-end m noStmts n h = rw (eq-eqb m 0 h) (omega arith)
 else-end m (moreStmts s k) n h = rw (ne-eqb m 0 (λ q. omega (arith, q, h))) (omega arith)
 
 module _ (c b : List ℕ) (p : Done) {buf : List ℕ} (e m : ℕ) where
-  -- an Elif has a node
-  pub elif-room : (e ≡ 0 → ⊥) → ReadsAt (rests (p .lbl) e m) c b p buf → p .cont + 2 ≤ length c
-  elif-room z h = by-tree (h .tree) (h .spelt) (reads-nodes (rests (p .lbl) e m) h)
-    where
-      by-tree : (t : Rest) → At (rests (p .lbl) e m) t (drop (p .cont) c) (drop (p .body) b) → p .cont + E (flatRest t) ≤ length c → p .cont + 2 ≤ length c
-      by-tree (Else k) d l = absurd (z (d .ok .0))
-      by-tree (Elif x s k) d l = omega (arith, l)
-
   module _ {a : Done} (z : e ≡ 0 → ⊥) (q : a ≡ record { cont = p .cont + 2; body = p .body + 0; lbl = p .lbl; low = p .low }) (j : ℕ) (ej : suc j ≡ e) where
     pub elif-reads : ReadsAt (rests (p .lbl) e m) c b p buf → ReadsAt (arms (a .lbl) j m) c b a buf
     elif-reads h = by-tree (h .tree) (h .spelt) (reads-nodes (rests (p .lbl) e m) h)
@@ -307,10 +347,6 @@ module _ (c b : List ℕ) (p : Done) {buf : List ℕ} (e m : ℕ) where
             let y : ArmPart = record { test = x; body = s; rest = t } in
             let f = made-goes (made-start q) (arms (a .lbl) j m) y c b (elif-arm c b p q e j m ej x s t d) g w kw (p .low .reg) (omega arith) in
             made-as (elif-end x s t w (p .lbl) (p .low .reg)) (omega arith) (omega arith) (omega arith) f
-
-    -- it is read on behind the Elif's node
-    pub elif-falls : ReadsAt (rests (p .lbl) e m) c b p buf → (p .cont < a .cont) × (a .cont ≤ length c)
-    elif-falls h = let i = ap (λ (d : Done). d .cont) q in (omega (arith, i), elif-reads h .cont)
 
   module _ (z : e ≡ 0) where
     pub else-reads : ReadsAt (rests (p .lbl) e m) c b p buf → ReadsAt (lists (p .lbl) m) c b p buf

@@ -4,7 +4,7 @@ use mathlib.Core.Path.{_≡_, refl, sym, ap, _∙_}
 use mathlib.Core.Bool.{Bool}
 use mathlib.Core.List.{List, [], _∷_}
 use native.Mathlib.Omega.{arith}
-use lib.ListN.{length, drop, getD, length-drop}
+use lib.ListN.{length, getD}
 use Rattle.sifv.specs.Value.{Num, One}
 use Rattle.sifv.specs.Slot.{wordOf}
 use Rattle.opc.specs.Op.{Lt, Jmpt, Binary, Ldn, Ldas, Ldav, Stc, Str, JmpCnd, Incrr, Instr, instr}
@@ -12,18 +12,18 @@ use Rattle.opc.specs.Record.{Fields, fields, fieldBytes, encodeInstr}
 use Rattle.ast.specs.Flat.{flatSource, entryBytes, bodyBytes}
 use Rattle.ast.specs.Tree.{Exprs, Source, OverName, OverCall, FnCall}
 use Rattle.compiler.specs.Lower.{Place, Reg, push, inner, prev, exprRegs, sourceName}
+use Rattle.emit.specs.declared.Low.{Low}
 use Rattle.emit.specs.declared.Done.{Done}
 use Rattle.emit.specs.inner.Run.{kept, Ready}
-use Rattle.emit.specs.inner.Made.{Made, At, ReadsAt, Goes}
+use Rattle.emit.specs.inner.Made.{Made, At, Reads, Front}
 use Rattle.emit.specs.laws.Laws.{unrefused, some-place}
 use Rattle.emit.specs.laws.Spell.{first-kind, first-body, fits-nodes, fits-bodies}
-use Rattle.emit.specs.laws.Places.{made-ready, made-kept, made-reg, made-push, made-load}
+use Rattle.emit.specs.laws.Places.{made-start, made-ready, made-kept, made-reg, made-push, made-load}
 use Rattle.emit.specs.laws.Regs.{expr-regs}
 use Rattle.expr.specs.inner.Parts.{exprs}
 use Rattle.stmt.specs.inner.Parts.{Emitted, forHead, forTail, sourceText, sources}
 use Rattle.stmt.specs.laws.Leaves.{Pushed, Loaded, emit-one}
 use Rattle.numeric.specs.Whole.{whole}
-use Rattle.lent.specs.laws.Parts.{byte-here}
 
 -- the bits of 0
 zero-word : wordOf (Num (whole 0)) ≡ 0
@@ -133,33 +133,28 @@ is-call : {n : ℕ} {s : Source} → SourceKind n s → (n ≡ 21 → ⊥) → {
 is-call by-name g h = absurd (g refl)
 is-call (by-call {f} {ps}) g h = (f, ps, refl, record { spells = h .spells; ok = h .ok })
 
-module _ {c b : List ℕ} {p : Done} {buf : List ℕ} where
-  pub source-room : ReadsAt sources c b p buf → (p .cont + 2 ≤ length c) × (p .body + 1 ≤ length b)
-  source-room h = let q = source-node (h .spelt) in (omega (arith, q .0, length-drop (p .cont) c), omega (arith, q .1, length-drop (p .body) b))
+module _ {c b : List ℕ} {s : Low} {buf : List ℕ} where
+  pub source-reads : (getD c 0 0 ≡ 21 → ⊥) → Reads sources c b s buf → Reads exprs c b s buf
+  source-reads g h = let q = is-call (source-kind (h .spelt)) g (h .spelt) in record { ready = h .ready; tree = FnCall (q .0) (q .1); spelt = q .3 }
 
-  pub source-reads : ReadsAt sources c b p buf → (getD c (p .cont) 0 ≡ 21 → ⊥) → ReadsAt exprs c b p buf
-  source-reads h g =
-      let q = is-call (source-kind (h .spelt)) (λ e. g (sym (byte-here c (p .cont)) ∙ e)) (h .spelt) in
-      record { ready = h .ready; cont = h .cont; body = h .body; tree = FnCall (q .0) (q .1); spelt = q .3 }
-
-  pub name-goes : {k : Bool} {r : Done} → getD c (p .cont) 0 ≡ 21 → r ≡ record { cont = p .cont + 2; body = p .body + 1; lbl = p .lbl; low = p .low } → Goes sources c b k p buf r buf
-  name-goes {k} {r} g e = record { goes = λ s h w kw. by-kind (rw (byte-here c (p .cont) ∙ g) at (source-kind h)) w }
+  pub name-front : {n : ℕ} {k : Bool} {r : Done} → getD c 0 0 ≡ 21 → r ≡ record { cont = 2; body = 1; lbl = n; low = s } → Front sources c b k n s buf r buf
+  name-front {n} {k} {r} g e = record { front = λ t h w kw. by-kind (rw g at (source-kind h)) w }
     where
-      by-kind : {s : Source} → SourceKind 21 s → (w : Place) → Made (sources .emits s w (p .lbl) (p .low .reg)) (p .cont + length (entryBytes (flatSource s))) (p .body + length (bodyBytes (flatSource s))) (p .lbl) (p .low) buf r buf
-      by-kind by-name w = rw e (record { cont = refl; body = refl; lbl = refl; did = record { state = refl; buffer = refl } })
+      by-kind : {t : Source} → SourceKind 21 t → (w : Place) → Made (sources .emits t w n (s .reg)) (length (entryBytes (flatSource t))) (length (bodyBytes (flatSource t))) n s buf r buf
+      by-kind by-name w = made-start e
 
-  pub call-goes : {k : Bool} {a r : Done} {f : Fields} {buf₁ buf₂ : List ℕ} → (getD c (p .cont) 0 ≡ 21 → ⊥) → Goes exprs c b k p buf a buf₁ → f ≡ fields (p .lbl) 11 0 (prev (a .low .reg)) 0 0 0 0
-      → Pushed k a (fieldBytes f) buf₁ r buf₂ → Goes sources c b k p buf r buf₂
-  call-goes {k} {a} {r} {f} {buf₁} {buf₂} g q e h = record { goes = λ s d w kw. by-kind (source-kind d) (λ z. g (sym (byte-here c (p .cont)) ∙ z)) d w kw }
-    where
-      by-kind : {n : ℕ} {s : Source} → SourceKind n s → (n ≡ 21 → ⊥) → At sources s (drop (p .cont) c) (drop (p .body) b) → (w : Place) → k ≡ kept (p .low .decls) (w .section)
-          → Made (sources .emits s w (p .lbl) (p .low .reg)) (p .cont + length (entryBytes (flatSource s))) (p .body + length (bodyBytes (flatSource s))) (p .lbl) (p .low) buf r buf₂
-      by-kind by-name z d w kw = absurd (z refl)
-      by-kind (by-call {f = x} {ps = ps}) z d w kw =
-          let m = q .goes (FnCall x ps) (record { spells = d .spells; ok = d .ok }) w kw in
-          let o : ℕ → Instr = λ i. instr (p .lbl) (Str (prev i) 0) in
-          let t = p .low .reg + exprRegs (FnCall x ps) in
-          made-push m w kw (o (a .low .reg)) (o t) h refl (ap fieldBytes e) (λ y. ap o (made-reg m t (ap (λ (i : ℕ). p .low .reg + i) (sym (expr-regs (FnCall x ps) w (p .lbl) (p .low .reg)))) y))
+  module _ {n : ℕ} {k : Bool} {a : Done} {buf₁ : List ℕ} (q : Front exprs c b k n s buf a buf₁) where
+    pub call-ready : Reads exprs c b s buf → Ready (a .low) buf₁
+    call-ready h = let w = some-place k (s .decls) in made-ready (q .front (h .tree) (h .spelt) (w .0) (w .1)) (h .ready)
 
-  pub call-ready : {k : Bool} {a : Done} {buf₁ : List ℕ} → ReadsAt exprs c b p buf → Goes exprs c b k p buf a buf₁ → Ready (a .low) buf₁
-  call-ready {k} h q = let w = some-place k (p .low .decls) in made-ready (q .goes (h .tree) (h .spelt) (w .0) (w .1)) (h .ready)
+    pub call-front : {r : Done} {f : Fields} {buf₂ : List ℕ} → (getD c 0 0 ≡ 21 → ⊥) → f ≡ fields n 11 0 (prev (a .low .reg)) 0 0 0 0 → Pushed k a (fieldBytes f) buf₁ r buf₂ → Front sources c b k n s buf r buf₂
+    call-front {r} {f} {buf₂} g e h = record { front = λ t d w kw. by-kind (source-kind d) g d w kw }
+      where
+        by-kind : {m : ℕ} {t : Source} → SourceKind m t → (m ≡ 21 → ⊥) → At sources t c b → (w : Place) → k ≡ kept (s .decls) (w .section)
+            → Made (sources .emits t w n (s .reg)) (length (entryBytes (flatSource t))) (length (bodyBytes (flatSource t))) n s buf r buf₂
+        by-kind by-name z d w kw = absurd (z refl)
+        by-kind (by-call {f = x} {ps = ps}) z d w kw =
+            let m = q .front (FnCall x ps) (record { spells = d .spells; ok = d .ok }) w kw in
+            let o : ℕ → Instr = λ i. instr n (Str (prev i) 0) in
+            let t = s .reg + exprRegs (FnCall x ps) in
+            made-push m w kw (o (a .low .reg)) (o t) h refl (ap fieldBytes e) (λ y. ap o (made-reg m t (ap (λ (i : ℕ). s .reg + i) (sym (expr-regs (FnCall x ps) w n (s .reg)))) y))

@@ -1,4 +1,4 @@
--- Which statement stands at a place, by its kind; and where its parts stand.
+-- Which statement stands at the front, by its kind; and where its parts stand.
 use Prim.Native.Nat.{ℕ, _+_, _-_, _≤_}
 use mathlib.Core.Path.{_≡_, refl, sym, ap, _∙_}
 use mathlib.Core.Bool.{Bool}
@@ -10,15 +10,16 @@ use Rattle.ast.specs.Node.{Kind, Node, node}
 use Rattle.ast.specs.Tree.{Expr, Rhs, Source}
 use Rattle.ast.specs.Tree.{Stmt, Block, IfStmt, ForStmt, Return, ReturnExpr, ExprStmt, VarDecl, VarInit, FnDecl, Stmts, Rest}
 use Rattle.ast.specs.Flat.{flatStmt, entryBytes, bodyBytes}
-use Rattle.compiler.specs.Lower.{Place}
+use Rattle.compiler.specs.Lower.{Place, stmtLabels, lowerStmt}
+use Rattle.emit.specs.declared.Low.{Low}
 use Rattle.emit.specs.declared.Done.{Done}
-use Rattle.emit.specs.inner.Run.{Ready}
-use Rattle.emit.specs.inner.Made.{Spells, Made, Part, ReadsAt, Goes}
+use Rattle.emit.specs.inner.Run.{kept, Ready}
+use Rattle.emit.specs.inner.Made.{Spells, Made, Part, At, Reads, Front, ReadsAt, Goes}
 use Rattle.emit.specs.laws.Laws.{some-place}
-use Rattle.emit.specs.laws.Spell.{in-node, first-kind, fits-nodes, fits-bodies}
+use Rattle.emit.specs.laws.Spell.{from, from-drop, in-node, first-kind, fits-nodes, fits-bodies}
 use Rattle.emit.specs.laws.Places.{made-ready}
 pub use Rattle.emit.specs.laws.Spell.{entries-both, bodies-both, expr-size}
-use Rattle.stmt.specs.laws.Leaves.{byte-at}
+use Rattle.stmt.specs.inner.Parts.{statements}
 use Rattle.lent.specs.laws.Parts.{byte-here}
 
 pub data Is : ℕ → Stmt → Type 0 where
@@ -43,8 +44,15 @@ kind-of (VarDecl x) h = rw (first-kind h) is-var
 kind-of (VarInit x r) h = rw (first-kind h) is-init
 kind-of (FnDecl f ps k) h = rw (first-kind h) is-fn
 
-pub kind-here : (s : Stmt) (c b : List ℕ) (u v : ℕ) {m : ℕ} → Spells (flatStmt s) (drop u c) (drop v b) → getD c u 0 ≡ m → Is m s
-kind-here s c b u v h e = rw (byte-here c u ∙ e) at (kind-of s h)
+pub kind-here : (s : Stmt) {c b : List ℕ} {m : ℕ} → Spells (flatStmt s) c b → getD c 0 0 ≡ m → Is m s
+kind-here s h e = rw e at (kind-of s h)
+
+pub block-kind : (k : Stmts) (c b : List ℕ) (u v : ℕ) → Spells (flatStmt (Block k)) (drop u c) (drop v b) → getD c u 0 ≡ 2
+block-kind k c b u v h = sym (byte-here c u) ∙ first-kind h
+
+-- the kind of a part's first node
+pub from-kind : (u : ℕ) (c : List ℕ) {m : ℕ} → getD c u 0 ≡ m → getD (from u c) 0 0 ≡ m
+from-kind u c e = ap (λ (l : List ℕ). getD l 0 0) (from-drop u c) ∙ byte-here c u ∙ e
 
 -- every kind but these is 9
 pub others : {m : ℕ} {s : Stmt} → Is m s → (m ≡ 2 → ⊥) → (m ≡ 3 → ⊥) → (m ≡ 5 → ⊥) → (m ≡ 6 → ⊥) → (m ≡ 7 → ⊥) → (m ≡ 8 → ⊥) → m ≡ 9
@@ -77,15 +85,31 @@ pub in-at : {k : Kind} {n : ℕ} {d : List ℕ} {ns : List Node} (u v : ℕ) (c 
 in-at {d = d} u v c b h = rw (← drop-drop 2 u c, ← drop-drop (length d) v b) (in-node h)
 
 -- the child count
-pub count-at : {k : Kind} {n : ℕ} {d : List ℕ} {ns : List Node} (u v : ℕ) (c b : List ℕ) → Spells (node k n d ∷ ns) (drop u c) (drop v b) → getD c (u + 1) 0 ≡ n
-count-at u v c b h = sym (byte-at c u 1) ∙ ap (λ (l : List ℕ). getD l 1 0) (h .nodes)
+pub count-here : {k : Kind} {n : ℕ} {d : List ℕ} {ns : List Node} {c b : List ℕ} → Spells (node k n d ∷ ns) c b → getD c 1 0 ≡ n
+count-here h = ap (λ (l : List ℕ). getD l 1 0) (h .nodes)
 
--- the first two bytes of the body
-pub body-here : {k : Kind} {n x : ℕ} {d : List ℕ} {ns : List Node} (u v : ℕ) (c b : List ℕ) → Spells (node k n (x ∷ d) ∷ ns) (drop u c) (drop v b) → getD b v 0 ≡ x
-body-here u v c b h = sym (byte-here b v) ∙ ap (λ (l : List ℕ). getD l 0 0) (h .bodies)
+-- the second byte of the body
+pub body-next : {k : Kind} {n x y : ℕ} {d : List ℕ} {ns : List Node} {c b : List ℕ} → Spells (node k n (x ∷ (y ∷ d)) ∷ ns) c b → getD b 1 0 ≡ y
+body-next h = ap (λ (l : List ℕ). getD l 1 0) (h .bodies)
 
-pub body-next : {k : Kind} {n x y : ℕ} {d : List ℕ} {ns : List Node} (u v : ℕ) (c b : List ℕ) → Spells (node k n (x ∷ (y ∷ d)) ∷ ns) (drop u c) (drop v b) → getD b (v + 1) 0 ≡ y
-body-next u v c b h = sym (byte-at b v 1) ∙ ap (λ (l : List ℕ). getD l 1 0) (h .bodies)
+-- ---- a statement by its kind
+
+-- what is made of it
+abbrev pub Whole : Bool → ℕ → Low → List ℕ → Done → List ℕ → Stmt → Type 0
+Whole k n s buf d buf′ t =
+    (w : Place) → k ≡ kept (s .decls) (w .section)
+    → Made (lowerStmt t w n (s .reg)) (length (entryBytes (flatStmt t))) (length (bodyBytes (flatStmt t))) (n + stmtLabels t) s buf d buf′
+
+module _ (n : ℕ) {c b : List ℕ} {m : ℕ} (z : getD c 0 0 ≡ m) where
+  pub read-as : {s : Low} {buf : List ℕ} {R : Type 0} → ((t : Stmt) → Is m t → At (statements n) t c b → R) → Reads (statements n) c b s buf → R
+  read-as f h = f (h .tree) (kind-here (h .tree) (h .spelt .spells) z) (h .spelt)
+
+  pub made-as-kind : {k : Bool} {s : Low} {buf : List ℕ} {d : Done} {buf′ : List ℕ} → ((t : Stmt) → Is m t → At (statements n) t c b → Whole k n s buf d buf′ t) → Front (statements n) c b k n s buf d buf′
+  made-as-kind f = record { front = λ t h. f t (kind-here t (h .spells) z) h }
+
+-- it has a node
+pub stmt-room : (n : ℕ) {c b : List ℕ} {s : Low} {buf : List ℕ} → Reads (statements n) c b s buf → 2 ≤ length c
+stmt-room n h = omega (arith, fits-nodes (h .spelt .spells), stmt-size (h .tree))
 
 -- ---- a part that is read, and what is known behind it
 

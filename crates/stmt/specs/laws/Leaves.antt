@@ -3,8 +3,6 @@ use Prim.Native.Nat.{ℕ, _+_}
 use mathlib.Core.Path.{_≡_, refl, ap}
 use mathlib.Core.Bool.{Bool}
 use mathlib.Core.List.{List, [], _∷_}
-use lib.ListN.{drop, getD}
-use lib.Seq.{getD-drop}
 use Rattle.opc.specs.Op.{Op, instr}
 use Rattle.opc.specs.Record.{itemsOf, encodeInstr}
 use Rattle.compiler.specs.Lower.{Place, Event, push}
@@ -55,7 +53,3 @@ module _ {f : Place → List Event} {l : ℕ} {k : Bool} {p d : Done} {buf buf�
 
   pub emitted-body : d .body ≡ p .body
   emitted-body = emitted-some .1 .body
-
--- the byte at a place
-pub byte-at : (c : List ℕ) (u i : ℕ) → getD (drop u c) i 0 ≡ getD c (u + i) 0
-byte-at c u i = getD-drop u c i 0

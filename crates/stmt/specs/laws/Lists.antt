@@ -1,5 +1,5 @@
 -- Statements one after the other, and the Nop for none.
-use Prim.Native.Nat.{ℕ, zero, suc, _+_, _-_, _≤_, _<_}
+use Prim.Native.Nat.{ℕ, suc, _+_, _≤_, _<_}
 use mathlib.Core.Path.{_≡_, refl, sym, ap}
 use mathlib.Core.Bool.{Bool}
 use mathlib.Core.List.{List, [], _∷_}
@@ -10,16 +10,17 @@ use Rattle.opc.specs.Op.{Nop}
 use Rattle.ast.specs.Tree.{Stmt, Block, Stmts, noStmts, moreStmts}
 use Rattle.ast.specs.Flat.{flatStmt, flatStmts, entryBytes, bodyBytes}
 use Rattle.ast.specs.Limits.{everyStmt, every}
-use Rattle.compiler.specs.Lower.{Place, push, stmtRegs, stmtLabels, lowerStmt}
+use Rattle.compiler.specs.Lower.{Place, push, stmtRegs, stmtLabels}
+use Rattle.emit.specs.declared.Low.{Low}
 use Rattle.emit.specs.declared.Done.{Done}
 use Rattle.emit.specs.inner.Run.{kept}
-use Rattle.emit.specs.inner.Made.{Made, At, ReadsAt, Goes}
-use Rattle.emit.specs.laws.Spell.{first, second-from}
+use Rattle.emit.specs.inner.Made.{Made, At, Reads, Front, ReadsAt, Goes}
+use Rattle.emit.specs.laws.Spell.{in-node, first, second-from}
 use Rattle.emit.specs.laws.Places.{made-as, made-start, made-reads, made-goes}
 use Rattle.stmt.specs.inner.Parts.{anyText, fits, Emitted, statements, lists, bodies}
 use Rattle.stmt.specs.laws.Regs.{stmt-regs}
 use Rattle.stmt.specs.laws.Leaves.{here}
-use Rattle.stmt.specs.laws.Kinds.{Is, is-block, kind-here, stmt-size, entries-both, bodies-both, in-at, count-at, reads-nodes, reads-bodies, goes-ready, goes-cont, goes-body, goes-lbl}
+use Rattle.stmt.specs.laws.Kinds.{Is, is-block, Whole, read-as, made-as-kind, stmt-room, stmt-size, entries-both, bodies-both, count-here, reads-nodes, reads-bodies, goes-ready, goes-cont, goes-body, goes-lbl}
 
 -- ---- a first statement and the others
 
@@ -114,33 +115,18 @@ body-some n {c} {b} {k} {p} {r} {buf} {buf′} z g = record { goes = λ t d w kw
 
 -- ---- the Block itself: its node, then its statements
 
-block-body : (c b : List ℕ) (p : Done) {a : Done} → a ≡ record { cont = p .cont + 2; body = p .body + 0; lbl = p .lbl; low = p .low } → (t : Stmts) → At (statements (p .lbl)) (Block t) (drop (p .cont) c) (drop (p .body) b)
-    → At (bodies (a .lbl) (getD c (p .cont + 1) 0)) t (drop (p .cont + 2) c) (drop (p .body + 0) b)
-block-body c b p e t d = record {
-  spells = in-at (p .cont) (p .body) c b (d .spells);
-  ok = (count-at (p .cont) (p .body) c b (d .spells), d .ok .0, rw e (d .ok .1));
-}
+block-body : {c b : List ℕ} {n : ℕ} {s : Low} {a : Done} → a ≡ record { cont = 2; body = 0; lbl = n; low = s } → {t : Stmts} → At (statements n) (Block t) c b → At (bodies (a .lbl) (getD c 1 0)) t (drop 2 c) b
+block-body e d = record { spells = in-node (d .spells); ok = (count-here (d .spells), d .ok .0, rw e (d .ok .1)) }
 
-module _ (c b : List ℕ) (p : Done) {a : Done} {buf : List ℕ} (z : getD c (p .cont) 0 ≡ 2) (e : a ≡ record { cont = p .cont + 2; body = p .body + 0; lbl = p .lbl; low = p .low }) where
-  pub block-reads : ReadsAt (statements (p .lbl)) c b p buf → ReadsAt (bodies (a .lbl) (getD c (p .cont + 1) 0)) c b a buf
-  block-reads h = by-kind (kind-here (h .tree) c b (p .cont) (p .body) (h .spelt .spells) z) (h .spelt)
+module _ (n : ℕ) {c b : List ℕ} {s : Low} {a : Done} {buf : List ℕ} (z : getD c 0 0 ≡ 2) (e : a ≡ record { cont = 2; body = 0; lbl = n; low = s }) where
+  pub block-reads : Reads (statements n) c b s buf → ReadsAt (bodies (a .lbl) (getD c 1 0)) c b a buf
+  block-reads h = read-as n z (λ t i. by-kind i) h
     where
-      by-kind : {s : Stmt} → Is 2 s → At (statements (p .lbl)) s (drop (p .cont) c) (drop (p .body) b) → ReadsAt (bodies (a .lbl) (getD c (p .cont + 1) 0)) c b a buf
-      by-kind (is-block {b = t}) d =
-          made-reads (made-start e) (bodies (a .lbl) (getD c (p .cont + 1) 0)) t c b (block-body c b p e t d) (h .ready)
-          (omega (arith, reads-nodes (statements (p .lbl)) h, stmt-size (h .tree))) (omega (arith, h .body))
+      by-kind : {y : Stmt} → Is 2 y → At (statements n) y c b → ReadsAt (bodies (a .lbl) (getD c 1 0)) c b a buf
+      by-kind (is-block {b = t}) d = made-reads (made-start e) (bodies (a .lbl) (getD c 1 0)) t c b (block-body e d) (h .ready) (stmt-room n h) (omega arith)
 
-  pub block-goes : {k : Bool} {r : Done} {buf′ : List ℕ} → Goes (bodies (a .lbl) (getD c (p .cont + 1) 0)) c b k a buf r buf′ → Goes (statements (p .lbl)) c b k p buf r buf′
-  block-goes {k} {r} {buf′} g = record { goes = λ s d w kw. by-kind (kind-here s c b (p .cont) (p .body) (d .spells) z) d w kw }
+  pub block-front : {k : Bool} {r : Done} {buf′ : List ℕ} → Goes (bodies (a .lbl) (getD c 1 0)) c b k a buf r buf′ → Front (statements n) c b k n s buf r buf′
+  block-front {k} {r} {buf′} g = made-as-kind n z (λ t i. by-kind i)
     where
-      by-kind : {s : Stmt} → Is 2 s → At (statements (p .lbl)) s (drop (p .cont) c) (drop (p .body) b) → (w : Place) → k ≡ kept (p .low .decls) (w .section)
-          → Made (lowerStmt s w (p .lbl) (p .low .reg)) (p .cont + length (entryBytes (flatStmt s))) (p .body + length (bodyBytes (flatStmt s))) (p .lbl + stmtLabels s) (p .low) buf r buf′
-      by-kind (is-block {b = t}) d w kw =
-          let m : Made [] (p .cont + 2) (p .body + 0) (p .lbl) (p .low) buf a buf = made-start e in
-          let x = made-goes m (bodies (a .lbl) (getD c (p .cont + 1) 0)) t c b (block-body c b p e t d) g w kw (p .low .reg) (omega arith) in
-          made-as refl (omega arith) (omega arith) refl x
-
--- one fewer
-pub one-fewer : (n : ℕ) → (n ≡ 0 → ⊥) → suc (n - 1) ≡ n
-one-fewer zero h = absurd (h refl)
-one-fewer (suc n) h = omega arith
+      by-kind : {y : Stmt} → Is 2 y → At (statements n) y c b → Whole k n s buf r buf′ y
+      by-kind (is-block {b = t}) d w kw = made-as refl (omega arith) (omega arith) refl (made-goes (made-start e) (bodies (a .lbl) (getD c 1 0)) t c b (block-body e d) g w kw (s .reg) (omega arith))

@@ -8,8 +8,8 @@ use lib.ListN.{length, getElem?, set, length-set}
 use Rattle.sifv.specs.Value.{Single, Entry, Value, One, Arr, Tab}
 use Rattle.opc.specs.Op.{BinOpKind, UnOpKind}
 use Rattle.vm.specs.Operation.{Got, Names, put, orNull, binary, unary, read, arrayItem, update, tabled}
-pub use Rattle.vm.specs.laws.Outcomes.{ok, stop}
-use Rattle.vm.specs.laws.Outcomes.{Comes, Sole, Closed, binary-comes, unary-comes, read-comes, item-comes, items-comes, update-comes, tabled-comes}
+pub use Rattle.vm_laws.specs.laws.Outcomes.{ok, stop}
+use Rattle.vm_laws.specs.laws.Outcomes.{Comes, Sole, Closed, binary-comes, unary-comes, read-comes, item-comes, items-comes, update-comes, tabled-comes}
 use Rattle.walk.specs.Walk as Walk
 use Rattle.opc.specs.laws.RecordRange.{AllSome, Any, any-all}
 

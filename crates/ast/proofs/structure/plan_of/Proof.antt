@@ -1,13 +1,25 @@
 use Rattle.ast.proofs.Agree.{past, only-23}
 use mathlib.Core.Path.{_≡_}
+use Prim.Native.Nat.{ℕ, zero, suc, _≤_}
+use native.Mathlib.Omega.{arith}
 use borrow.Author.Needs.{needs}
 use Rattle.ast.proofs.structure.plan_of.Statement.{statement}
 use Rattle.ast.proofs.structure.plan_of.Tie as tie
 
+-- what a match tells of a number in its last arm: it is none of 1 to n
+abbrev Passed : ℕ → ℕ → Type 0
+Passed zero k = Unit {0}
+Passed (suc n) k = Passed n k × (k ≡ suc n → ⊥)
+
+beyond : (n : ℕ) {k : ℕ} → 1 ≤ k → Passed n k → suc n ≤ k
+beyond zero h r = h
+beyond (suc n) h r = omega (arith, past (suc n) (beyond n h (r .0)) (r .1))
+
 returns-23 : tie.Need-returns-23
 returns-23 c =
     let s : tie.Start = search in
-    let e : s .args .kind ≡ 23 = only-23 (past 22 (past 21 (past 20 (past 19 (past 18 (past 17 (past 16 (past 15 (past 14 (past 13 (past 12 (past 11 (past 10 (past 9 (past 8 (past 7 (past 6 (past 5 (past 4 (past 3 (past 2 (past 1 (s .pre .0) (c .before .match .rest .0 .0 .0 .0 .0 .0 .0 .0 .0 .0 .0 .0 .0 .0 .0 .0 .0 .0 .0 .0 .0 .1)) (c .before .match .rest .0 .0 .0 .0 .0 .0 .0 .0 .0 .0 .0 .0 .0 .0 .0 .0 .0 .0 .0 .0 .1)) (c .before .match .rest .0 .0 .0 .0 .0 .0 .0 .0 .0 .0 .0 .0 .0 .0 .0 .0 .0 .0 .0 .1)) (c .before .match .rest .0 .0 .0 .0 .0 .0 .0 .0 .0 .0 .0 .0 .0 .0 .0 .0 .0 .0 .1)) (c .before .match .rest .0 .0 .0 .0 .0 .0 .0 .0 .0 .0 .0 .0 .0 .0 .0 .0 .0 .1)) (c .before .match .rest .0 .0 .0 .0 .0 .0 .0 .0 .0 .0 .0 .0 .0 .0 .0 .0 .1)) (c .before .match .rest .0 .0 .0 .0 .0 .0 .0 .0 .0 .0 .0 .0 .0 .0 .0 .1)) (c .before .match .rest .0 .0 .0 .0 .0 .0 .0 .0 .0 .0 .0 .0 .0 .0 .1)) (c .before .match .rest .0 .0 .0 .0 .0 .0 .0 .0 .0 .0 .0 .0 .0 .1)) (c .before .match .rest .0 .0 .0 .0 .0 .0 .0 .0 .0 .0 .0 .0 .1)) (c .before .match .rest .0 .0 .0 .0 .0 .0 .0 .0 .0 .0 .0 .1)) (c .before .match .rest .0 .0 .0 .0 .0 .0 .0 .0 .0 .0 .1)) (c .before .match .rest .0 .0 .0 .0 .0 .0 .0 .0 .0 .1)) (c .before .match .rest .0 .0 .0 .0 .0 .0 .0 .0 .1)) (c .before .match .rest .0 .0 .0 .0 .0 .0 .0 .1)) (c .before .match .rest .0 .0 .0 .0 .0 .0 .1)) (c .before .match .rest .0 .0 .0 .0 .0 .1)) (c .before .match .rest .0 .0 .0 .0 .1)) (c .before .match .rest .0 .0 .0 .1)) (c .before .match .rest .0 .0 .1)) (c .before .match .rest .0 .1)) (c .before .match .rest .1)) (s .pre .1) in rw (c .only-first19 .ensures, e)
+    let e : s .args .kind ≡ 23 = only-23 (beyond 22 (s .pre .0) (c .before .match .rest)) (s .pre .1) in
+    rw (c .only-first19 .ensures, e)
 
 pub plan-of-spec : {M : Type 1} → statement M
 plan-of-spec =

@@ -42,7 +42,7 @@ returns-4 : tie.Need-returns-4
 returns-4 c =
     let else2 : tie.Else2 = search in let at-kind-at : tie.After-kind-at = search in let at-slot : tie.After-slot = search in
     let s : tie.Start = search in
-    tabled-multi (s .args .state .now) (s .pre .0) (s .args .tabname) (s .pre .1) (at-slot .slot .ensures) (s .args .key) (regsOf (s .args .state .now) (s .args .src)) (sym (at-kind-at .kind-at .ensures) ∙ else2 .if2 .left) refl (c .before .before .before .kind-at2 .ensures ∙ ap (λ (o : Option Value). kindIn (seen o)) (reg-value _ (s .pre .0) _ (s .pre .3) (c .before .before .before .before .reg .ensures))) (c .before .if4 .taken) (ap did.Err (c .not-single .ensures)) refl
+    tabled-multi (s .args .state .now) (s .pre .0) (s .args .tabname) (s .pre .1) (at-slot .slot .ensures) (s .args .key) (regsOf (s .args .state .now) (s .args .src)) (sym (at-kind-at .kind-at .ensures) ∙ else2 .if2 .left) refl (c .before .before .before .kind-at2 .ensures ∙ ap (λ (o : Option Value). kindIn (seen o)) (reg-value _ (s .pre .0) _ (s .pre .3) (c .before .before .before .before .reg .ensures))) (c .before .if4 .taken) (ap did.Err (c .nested .ensures)) refl
 
 insert-requires : tie.Need-insert-requires
 insert-requires c κs =

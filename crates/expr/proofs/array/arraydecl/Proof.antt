@@ -7,7 +7,8 @@ use Rattle.expr.proofs.array.arraydecl.Tie as tie
 
 shared-slice-read-n : tie.Need-shared-slice-read-n
 shared-slice-read-n c =
-    let h = arr-asks (c .before .before .before .before .pre .0) (c .before .before .before .before .pre .1) in
+    let s : tie.Start = search in
+    let h = arr-asks (s .pre .0) (s .pre .1) in
     omega (arith, arr-room (h .2))
 
 shared-slice-read-array-fields : tie.Need-shared-slice-read-array-fields
@@ -19,7 +20,8 @@ shared-slice-read-array-fields c =
 push-items-requires : tie.Need-push-items-requires
 push-items-requires c κs =
     let s : tie.Start = search in
-    (s .pre .0 .ready, omega (arith, c .before .before .before .shared-slice-known3 .given 1))
+    let at-shared-slice-known3 : tie.After-shared-slice-known3 = search in
+    (s .pre .0 .ready, omega (arith, at-shared-slice-known3 .shared-slice-known3 .given 1))
 
 arrayitems-requires : tie.Need-arrayitems-requires
 arrayitems-requires c κs =
@@ -46,6 +48,6 @@ returns c =
 
 pub arraydecl-spec : {M : Type 1} → statement M
 arraydecl-spec =
-    tie.close (tie.spec shared-slice-read-n (λ c. omega (arith, c .shared-slice-known3 .given 1))
+    tie.close (tie.spec shared-slice-read-n (λ c. omega (arith, c .shared-slice-known3 .given 1)) (λ c. search needs)
     shared-slice-read-array-fields (λ c κs. search needs) push-items-requires
     arrayitems-requires mul-start add-start (λ c κs. search needs) (λ c. search needs) returns)

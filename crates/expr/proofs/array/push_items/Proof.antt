@@ -11,8 +11,8 @@ returns-2 c = items-full _ _ _ _ _ (c .before .before .before .if1 .left) (sym (
 
 keep-record-requires : tie.Need-keep-record-requires
 keep-record-requires c κs =
-    let s : tie.Start = search in
-    let a = s .args in λ k. omega (arith, roomy (a .keep) (a .low) (a .n) (sym (c .before .before .is-full .ensures) ∙ c .before .if2 .left) .1 k .0, s .pre .0 .room)
+    let else2 : tie.Else2 = search in let at-is-full : tie.After-is-full = search in let s : tie.Start = search in
+    let a = s .args in λ k. omega (arith, roomy (a .keep) (a .low) (a .n) (sym (at-is-full .is-full .ensures) ∙ else2 .if2 .left) .1 k .0, s .pre .0 .room)
 
 returns-3 : tie.Need-returns-3
 returns-3 c =
@@ -22,5 +22,5 @@ returns-3 c =
 pub push-items-spec : {M : Type 1} → statement M
 push-items-spec =
     tie.close (tie.spec (λ c. items-refused _ _ _ _ _ (c .if1 .taken)) (λ c κs. search needs)
-    (λ c κs. search needs) returns-2 keep-record-requires (λ c κs. search needs)
+    (λ c κs. search needs) returns-2 (λ c. search needs) keep-record-requires (λ c κs. search needs)
     (λ c. search needs) returns-3)

@@ -10,7 +10,9 @@ returns : tie.Need-returns
 returns c = rw (eq-eqb _ 19 (c .before .before .if1 .taken)) (ap Num (c .from-bits .ensures ∙ ap (ofBits binary64) (c .before .get-u64 .ensures)))
 
 shared-slice-read-wide : tie.Need-shared-slice-read-wide
-shared-slice-read-wide c = c .before .before .before .before .pre .1 (c .before .if2 .taken)
+shared-slice-read-wide c =
+    let s : tie.Start = search in
+    s .pre .1 (c .before .if2 .taken)
 
 returns-2 : tie.Need-returns-2
 returns-2 c = rw (ne-eqb _ 19 (c .before .before .before .if1 .left), eq-eqb _ 20 (c .before .before .if2 .taken)) (ap Str (c .wide .ensures .0))

@@ -1,5 +1,5 @@
 use native.Mathlib.Omega.{arith}
-use Prim.Native.Nat.{_+_, _-_}
+use Prim.Native.Nat.{_-_}
 use lib.ListN.{getD}
 use Rattle.stmt.specs.laws.Fns.{regs-ready, fn-ready}
 use Rattle.stmt.specs.laws.FnLaws.{is-a-fn, fn-room, fn-names-length, head-goes}
@@ -7,100 +7,77 @@ use borrow.Author.Needs.{needs}
 use Rattle.stmt.proofs.fns.fn_head.Statement.{statement}
 use Rattle.stmt.proofs.fns.fn_head.Tie as tie
 
-add-count : tie.Need-add-count
-add-count c = omega (arith, fn-room (is-a-fn (c .before .before .before .pre .0) (c .before .before .before .pre .1)) .1)
-
 shared-slice-read-count : tie.Need-shared-slice-read-count
-shared-slice-read-count c = omega (arith, fn-room (is-a-fn (c .before .before .before .before .pre .0) (c .before .before .before .before .pre .1)) .1)
+shared-slice-read-count c = omega (arith, fn-room (is-a-fn (c .before .before .before .before .args .lbl) (c .before .before .before .before .pre .1) (c .before .before .before .before .pre .0)) .1)
 
 cast-count : tie.Need-cast-count
 cast-count c =
     let s : tie.Start = search in
-    omega (arith, fn-room (is-a-fn (s .pre .0) (s .pre .1)) .0, fn-room (is-a-fn (s .pre .0) (s .pre .1)) .2)
-
-add-end : tie.Need-add-end
-add-end c =
-    let s : tie.Start = search in
-    omega (arith, fn-room (is-a-fn (s .pre .0) (s .pre .1)) .0, fn-room (is-a-fn (s .pre .0) (s .pre .1)) .2)
+    omega (arith, fn-room (is-a-fn (s .args .lbl) (s .pre .1) (s .pre .0)) .0, fn-room (is-a-fn (s .args .lbl) (s .pre .1) (s .pre .0)) .2)
 
 sub-nextregs : tie.Need-sub-nextregs
-sub-nextregs c = omega (arith, fn-room (is-a-fn (c .before .before .before .before .pre .0) (c .before .before .before .before .pre .1)) .0)
+sub-nextregs c = omega (arith, fn-room (is-a-fn (c .before .before .before .before .args .lbl) (c .before .before .before .before .pre .1) (c .before .before .before .before .pre .0)) .0)
 
 shared-slice-read-push-fn : tie.Need-shared-slice-read-push-fn
 shared-slice-read-push-fn c =
     let s : tie.Start = search in
-    omega (arith, fn-room (is-a-fn (s .pre .0) (s .pre .1)) .2)
-
-add-push-fn : tie.Need-add-push-fn
-add-push-fn c =
-    let s : tie.Start = search in
-    omega (arith, fn-room (is-a-fn (s .pre .0) (s .pre .1)) .2)
+    omega (arith, fn-room (is-a-fn (s .args .lbl) (s .pre .1) (s .pre .0)) .2)
 
 sub-push-fn : tie.Need-sub-push-fn
 sub-push-fn c =
     let s : tie.Start = search in
-    omega (arith, fn-room (is-a-fn (s .pre .0) (s .pre .1)) .0, fn-room (is-a-fn (s .pre .0) (s .pre .1)) .2)
+    omega (arith, fn-room (is-a-fn (s .args .lbl) (s .pre .1) (s .pre .0)) .0, fn-room (is-a-fn (s .args .lbl) (s .pre .1) (s .pre .0)) .2)
 
 part-push-fn-start : tie.Need-part-push-fn-start
 part-push-fn-start c =
     let s : tie.Start = search in
-    omega (arith, fn-room (is-a-fn (s .pre .0) (s .pre .1)) .0, fn-room (is-a-fn (s .pre .0) (s .pre .1)) .2)
+    omega (arith, fn-room (is-a-fn (s .args .lbl) (s .pre .1) (s .pre .0)) .0, fn-room (is-a-fn (s .args .lbl) (s .pre .1) (s .pre .0)) .2)
 
 part-push-fn-end : tie.Need-part-push-fn-end
 part-push-fn-end c =
     let s : tie.Start = search in
-    omega (arith, fn-room (is-a-fn (s .pre .0) (s .pre .1)) .0, fn-room (is-a-fn (s .pre .0) (s .pre .1)) .2)
+    omega (arith, fn-room (is-a-fn (s .args .lbl) (s .pre .1) (s .pre .0)) .0, fn-room (is-a-fn (s .args .lbl) (s .pre .1) (s .pre .0)) .2)
 
 push-fn-requires : tie.Need-push-fn-requires
 push-fn-requires c κs =
     let s : tie.Start = search in
-    (regs-ready (getD (s .args .contents .now) (s .args .p .cont + 1) 0 - 1) (s .pre .0 .ready) (c .before .before .before .nextregs .ensures), omega (arith, fn-names-length (is-a-fn (s .pre .0) (s .pre .1)), fn-room (is-a-fn (s .pre .0) (s .pre .1)) .0, c .before .before .before .before .shared-slice-known3 .given (s .args .p .cont + 1)))
-
-add-pops : tie.Need-add-pops
-add-pops c =
-    let s : tie.Start = search in
-    omega (arith, fn-room (is-a-fn (s .pre .0) (s .pre .1)) .2)
+    (regs-ready (getD (s .args .contents .now) 1 0 - 1) (s .pre .0 .ready) (c .before .before .before .nextregs .ensures), omega (arith, fn-names-length (is-a-fn (s .args .lbl) (s .pre .1) (s .pre .0)), fn-room (is-a-fn (s .args .lbl) (s .pre .1) (s .pre .0)) .0, c .before .before .before .before .shared-slice-known3 .given 1))
 
 sub-pops : tie.Need-sub-pops
 sub-pops c =
     let s : tie.Start = search in
-    omega (arith, fn-room (is-a-fn (s .pre .0) (s .pre .1)) .0, fn-room (is-a-fn (s .pre .0) (s .pre .1)) .2)
+    omega (arith, fn-room (is-a-fn (s .args .lbl) (s .pre .1) (s .pre .0)) .0, fn-room (is-a-fn (s .args .lbl) (s .pre .1) (s .pre .0)) .2)
 
 part-pops-start : tie.Need-part-pops-start
 part-pops-start c =
     let s : tie.Start = search in
-    omega (arith, fn-room (is-a-fn (s .pre .0) (s .pre .1)) .0, fn-room (is-a-fn (s .pre .0) (s .pre .1)) .2)
+    omega (arith, fn-room (is-a-fn (s .args .lbl) (s .pre .1) (s .pre .0)) .0, fn-room (is-a-fn (s .args .lbl) (s .pre .1) (s .pre .0)) .2)
 
 part-pops-end : tie.Need-part-pops-end
 part-pops-end c =
     let s : tie.Start = search in
-    omega (arith, fn-room (is-a-fn (s .pre .0) (s .pre .1)) .0, fn-room (is-a-fn (s .pre .0) (s .pre .1)) .2)
+    omega (arith, fn-room (is-a-fn (s .args .lbl) (s .pre .1) (s .pre .0)) .0, fn-room (is-a-fn (s .args .lbl) (s .pre .1) (s .pre .0)) .2)
 
 pops-requires : tie.Need-pops-requires
 pops-requires c κs =
     let at-nextregs : tie.After-nextregs = search in let at-shared-slice-known3 : tie.After-shared-slice-known3 = search in
     let s : tie.Start = search in
-    (fn-ready (regs-ready (getD (s .args .contents .now) (s .args .p .cont + 1) 0 - 1) (s .pre .0 .ready) (at-nextregs .nextregs .ensures)) (c .before .before .before .before .push-fn .ensures), omega (arith, fn-names-length (is-a-fn (s .pre .0) (s .pre .1)), fn-room (is-a-fn (s .pre .0) (s .pre .1)) .0, at-shared-slice-known3 .shared-slice-known3 .given (s .args .p .cont + 1)))
+    (fn-ready (regs-ready (getD (s .args .contents .now) 1 0 - 1) (s .pre .0 .ready) (at-nextregs .nextregs .ensures)) (c .before .before .before .before .push-fn .ensures), omega (arith, fn-names-length (is-a-fn (s .args .lbl) (s .pre .1) (s .pre .0)), fn-room (is-a-fn (s .args .lbl) (s .pre .1) (s .pre .0)) .0, at-shared-slice-known3 .shared-slice-known3 .given 1))
 
 mul-start : tie.Need-mul-start
 mul-start c =
-    let s = c .before .before .before .before .before .before .before .before .before .before .before .before .before .before .before .before in
-    omega (arith, fn-room (is-a-fn (s .pre .0) (s .pre .1)) .0, fn-room (is-a-fn (s .pre .0) (s .pre .1)) .1, s .good .0 .0)
-
-add-start : tie.Need-add-start
-add-start c =
-    let s = c .before .before .before .before .before .before .before .before .before .before .before .before .before .before .before .before in
-    omega (arith, fn-room (is-a-fn (s .pre .0) (s .pre .1)) .0, fn-room (is-a-fn (s .pre .0) (s .pre .1)) .1, s .good .0 .0)
+    let s : tie.Start = search in
+    omega (arith, fn-room (is-a-fn (s .args .lbl) (s .pre .1) (s .pre .0)) .0, fn-room (is-a-fn (s .args .lbl) (s .pre .1) (s .pre .0)) .1, s .good .0 .0)
 
 returns : tie.Need-returns
 returns c =
     let at-push-fn : tie.After-push-fn = search in let at-nextregs : tie.After-nextregs = search in let s : tie.Start = search in
-    head-goes (s .args .contents .now) (s .args .bodies .now) (s .args .p) (s .pre .0 .ready) (at-nextregs .nextregs .ensures) (at-push-fn .push-fn .ensures) (c .before .before .before .pops .ensures) (c .start .ensures)
+    head-goes (s .pre .0 .ready) (at-nextregs .nextregs .ensures) (at-push-fn .push-fn .ensures) (c .before .before .before .pops .ensures) (c .start .ensures)
 
 pub fn-head-spec : {M : Type 1} → statement M
 fn-head-spec =
-    tie.close (tie.spec add-count shared-slice-read-count cast-count add-end sub-nextregs
-    (λ c κs. c .before .before .before .before .pre .0 .ready .registers)
-    shared-slice-read-push-fn add-push-fn sub-push-fn part-push-fn-start part-push-fn-end
-    push-fn-requires add-pops sub-pops part-pops-start part-pops-end pops-requires mul-start
-    add-start (λ c κs. search needs) (λ c. search needs) returns)
+    tie.close (tie.spec shared-slice-read-count cast-count sub-nextregs
+    (λ c κs. let s : tie.Start = search in s .pre .0 .ready .registers)
+    shared-slice-read-push-fn sub-push-fn part-push-fn-start part-push-fn-end push-fn-requires
+    sub-pops part-pops-start part-pops-end pops-requires mul-start (λ c κs. search needs)
+    (λ c. search needs) returns)

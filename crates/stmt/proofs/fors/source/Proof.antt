@@ -1,30 +1,32 @@
 use native.Mathlib.Omega.{arith}
-use Rattle.stmt.specs.laws.Fors.{source-room, source-reads, name-goes, call-ready, call-goes}
+use Rattle.stmt.specs.laws.Fors.{source-node, source-reads, name-front, call-ready, call-front}
 use borrow.Author.Needs.{needs}
 use Rattle.stmt.proofs.fors.source.Statement.{statement}
 use Rattle.stmt.proofs.fors.source.Tie as tie
 
 shared-slice-read-if1 : tie.Need-shared-slice-read-if1
-shared-slice-read-if1 c = omega (arith, source-room (c .before .before .before .before .pre) .0)
-
-expr-at-requires : tie.Need-expr-at-requires
-expr-at-requires c κs =
+shared-slice-read-if1 c =
     let s : tie.Start = search in
-    source-reads (s .pre) (c .before .if1 .left)
+    omega (arith, source-node (s .pre .spelt) .0)
+
+expr-requires : tie.Need-expr-requires
+expr-requires c κs =
+    let s : tie.Start = search in
+    source-reads (c .before .if1 .left) (s .pre)
 
 push-at-requires : tie.Need-push-at-requires
 push-at-requires c κs =
-    let at-expr-at : tie.After-expr-at = search in let else1 : tie.Else1 = search in let s : tie.Start = search in
-    call-ready (source-reads (s .pre) (else1 .if1 .left)) (at-expr-at .expr-at .ensures)
+    let at-expr : tie.After-expr = search in let else1 : tie.Else1 = search in let s : tie.Start = search in
+    call-ready (at-expr .expr .ensures) (source-reads (else1 .if1 .left) (s .pre))
 
 returns-2 : tie.Need-returns-2
 returns-2 c =
-    let at-prevreg : tie.After-prevreg = search in let at-expr-at : tie.After-expr-at = search in let else1 : tie.Else1 = search in
-    call-goes (else1 .if1 .left) (at-expr-at .expr-at .ensures) (rw (at-prevreg .prevreg .ensures) at (c .before .before .before .before .fields-of .ensures)) (c .before .before .push-at .ensures)
+    let at-prevreg : tie.After-prevreg = search in let at-expr : tie.After-expr = search in let else1 : tie.Else1 = search in
+    call-front (at-expr .expr .ensures) (else1 .if1 .left) (rw (at-prevreg .prevreg .ensures) at (c .before .before .before .before .fields-of .ensures)) (c .before .before .push-at .ensures)
 
 pub source-spec : {M : Type 1} → statement M
 source-spec =
     tie.close (tie.spec shared-slice-read-if1 (λ c κs. search needs)
-    (λ c. name-goes (c .before .if1 .taken) (c .pass .ensures)) expr-at-requires
+    (λ c. name-front (c .before .if1 .taken) (c .start .ensures)) expr-requires
     (λ c κs. search needs) (λ c κs. search needs) push-at-requires (λ c. search needs)
     returns-2)

@@ -9,7 +9,7 @@ use Rattle.stmt.proofs.jumps.jump_end.Tie as tie
 returns : tie.Need-returns
 returns c =
     let at-fields-of : tie.After-fields-of = search in let s : tie.Start = search in
-    label-next (emit-one (s .args .p .lbl) (Jmpa 0) refl (λ j. ap fieldBytes (at-fields-of .fields-of .ensures)) (c .before .before .before .push-at .ensures)) (c .newlbl .ensures)
+    label-next (emit-one (s .args .p .lbl) (Jmpa (s .args .last)) refl (λ j. ap fieldBytes (at-fields-of .fields-of .ensures)) (c .before .before .before .push-at .ensures)) (c .newlbl .ensures)
 
 pub jump-end-spec : {M : Type 1} → statement M
 jump-end-spec =

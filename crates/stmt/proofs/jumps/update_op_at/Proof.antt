@@ -13,4 +13,4 @@ returns-2 c = rw (le-ltb (c .before .before .before .before .args .a .recs) (c .
 
 pub update-op-at-spec : {M : Type 1} → statement M
 update-op-at-spec =
-    tie.close (tie.spec (λ c. search needs) (λ c. search needs) (λ c κs. search needs) (λ c. search needs) returns returns-2)
+    tie.close (tie.spec (λ c. search needs) (λ c. search needs) (λ c. search needs) (λ c κs. search needs) (λ c. search needs) returns returns-2)

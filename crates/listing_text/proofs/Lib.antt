@@ -1,0 +1,4 @@
+pub mod Shown
+pub mod Cases
+pub mod Rows
+pub mod Programs

@@ -1,0 +1,3 @@
+pub mod ProgramText
+pub mod Ending
+pub mod Listing
