@@ -1,7 +1,7 @@
-/* The replay on a processor without a system: its start, and what it says to the emulator by semihosting. */
+/* A program (replay.c, painted.c) on a processor without a system: its start, and what it says to the emulator by semihosting. */
 #include <stdint.h>
 
-int replay(void);
+int work(void);
 
 static void ask(uintptr_t operation, const void *argument) {
 #if defined(__arm__)
@@ -40,14 +40,14 @@ static void fault(void) { quit(3); }
 void start(void) {
     *(volatile uint32_t *)0xe000ed88 |= (uint32_t)0xf << 20; /* floating point on: coprocessors 10 and 11 */
     __asm__ volatile("dsb\nisb");
-    quit(replay());
+    quit(work());
 }
 
 extern char stack_top[];
 __attribute__((section(".start"), used)) static const void *const vectors[8] = {
     stack_top, (void *)start, (void *)fault, (void *)fault, (void *)fault, (void *)fault, (void *)fault, (void *)fault};
 #else
-__attribute__((used)) static void go(void) { quit(replay()); }
+__attribute__((used)) static void go(void) { quit(work()); }
 __attribute__((used)) static void fault(void) { quit(3); }
 #if defined(__aarch64__)
 __asm__(".section .start, \"ax\"\n"

@@ -1,5 +1,5 @@
-/* The replay on i386 under Linux, without a C library: system calls 4 (write) and 1 (exit). */
-int replay(void);
+/* A program (replay.c, painted.c) on i386 under Linux, without a C library: system calls 4 (write) and 1 (exit). */
+int work(void);
 
 static long call(long number, long a, long b, long c) {
     long answer;
@@ -10,7 +10,7 @@ static long call(long number, long a, long b, long c) {
 void put(char c) { call(4, 1, (long)&c, 1); }
 
 __attribute__((used)) static void go(void) {
-    for (int status = replay();;) call(1, status, 0, 0);
+    for (int status = work();;) call(1, status, 0, 0);
 }
 
 __asm__(".globl _start\n"

@@ -1,20 +1,14 @@
 /* All stored files and programs (cases/README.md) through the four calls: the checksum of all that they leave has to be the one
- * that is stored, made by the original. Freestanding: the platform gives put(), and calls replay(), which answers 0 if all is right. */
+ * that is stored, made by the original. Freestanding: the platform gives put(), and calls work(), which answers 0 if all is right. */
 #include <stdint.h>
-
-/* Lengths are 64 bits wide on every target, as the engine's proof has them. */
-uint64_t sif_lower(const uint8_t *file, uint64_t file_len, uint8_t *program, uint64_t program_len);
-uint64_t sif_start(const uint8_t *program, uint64_t program_len, uint8_t *state, uint64_t state_len);
-uint64_t sif_run(const uint8_t *program, uint64_t program_len, uint8_t *state, uint64_t state_len, uint64_t steps, uint8_t *report,
-                 uint64_t report_len);
-uint64_t sif_read_name(const uint8_t *state, uint64_t state_len, uint64_t text, uint8_t *out, uint64_t out_len);
+#include "sif.h"
 
 /* data.c */
 extern const uint8_t cases[], programs[];
 extern const uint32_t cases_length, programs_length;
 void put(char c);
 
-static uint8_t program[40960], state[65536], report[48], value[256];
+static uint8_t program[SIF_PROGRAM_SIZE], state[SIF_STATE_SIZE], report[SIF_REPORT_SIZE], value[SIF_VALUE_SIZE];
 static uint64_t sum;
 
 static void say(const char *s) { while (*s) put(*s++); }
@@ -56,7 +50,7 @@ static void run(uint64_t steps) {
     add(sif_run(program, sizeof program, state, sizeof state, steps, report, sizeof report));
     add_bytes(report, sizeof report);
     add_bytes(state, sizeof state);
-    for (uint64_t text = 0; text < 64; text++) {
+    for (uint64_t text = 0; text < SIF_TEXTS; text++) {
         clear(value, sizeof value);
         add(sif_read_name(state, sizeof state, text, value, sizeof value));
         add_bytes(value, sizeof value);
@@ -111,7 +105,7 @@ static int replay_list(const char *what, const uint8_t *at, uint32_t bytes, void
     return right != count || at != to;
 }
 
-int replay(void) {
+int work(void) {
     int wrong = replay_list(" files as stored", cases, cases_length, lower_and_run);
     return replay_list(" programs as stored", programs, programs_length, put_and_run) | wrong;
 }

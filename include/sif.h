@@ -9,8 +9,10 @@
  *   if (no == 0) no = sif_run(program, SIF_PROGRAM_SIZE, state, SIF_STATE_SIZE, 5000, report, SIF_REPORT_SIZE);
  *   if (no == 0) no = sif_read_name(state, SIF_STATE_SIZE, text, value, SIF_VALUE_SIZE);
  *
- * To link, with the library that `rt staticlib engine` makes. It calls no other library, C's neither:
+ * To link, with the library that `make install` brings; or in the repository, with the one that `rt staticlib engine` makes. They
+ * are the same. It calls no other library, C's neither:
  *
+ *   cc -std=c99 -O2 -o page examples/page.c $(pkg-config --cflags --libs sif)
  *   cc -std=c99 -O2 -I include -o page examples/page.c target/staticlib/libengine.a
  *
  * What holds of every call:
@@ -25,9 +27,9 @@
  * - A file may have any length. One longer than SIF_FILE_LONGEST is always refused, so SIF_FILE_LONGEST + 1 bytes of room receive
  *   any file: one that fills them is refused, whether or not more bytes followed.
  * - Time: before its first step sif_run checks the whole program and the whole state, and plans the program. On the pages measured
- *   that takes as long as some 700 steps on x86-64 and over 2,000 on a Cortex-M7. So give a call 5,000 steps or more: in portions
- *   of 500 the heaviest page took 2.5 times as long as in one call on x86-64, 5.4 times on a Cortex-M7. sif_read_name checks the
- *   whole state, too: read a page from the state itself (SIF_STATE_NAMES).
+ *   that takes as long as some 600 steps, on x86-64 and on a Cortex-M7. So give a call 5,000 steps or more: in portions of 500
+ *   the heaviest page took 2.4 times as long as in one call on x86-64, and 2.4 times as many instructions on a Cortex-M7.
+ *   sif_read_name checks the whole state, too: read a page from the state itself (SIF_STATE_NAMES).
  * - Saving: programs and states are plain bytes, without pointers. Copies that were made between calls may be lent in their place
  *   at any time, at any address, also after the power was off and on another processor. The first 34,948 bytes of a program and
  *   the first 47,360 of a state are enough: the bytes behind may be any, but the lengths lent are the whole sizes. A call
@@ -41,8 +43,10 @@
  *   is refused with 39, and is sent again by the desktop.
  * - Threads: calls on different buffers may run at the same time. A program that nobody writes may be lent to several calls at
  *   once, and a state that nobody writes to several sif_read_name; a state that is started or run is lent to that one call alone.
- * - Stack on x86-64, for every file, program and state, as compare/stack reads it from the object code: sif_lower under 22 KB,
- *   sif_run under 5 KB, sif_start under 3 KB, sif_read_name under 1 KB. */
+ * - Stack, for every file, program and state, as compare/stack and cross/stack read it from the object code.
+ *   On x86-64: sif_lower under 22 KB, sif_run under 5 KB, sif_start under 3 KB, sif_read_name under 1 KB.
+ *   On a Cortex-M7: sif_lower under 22 KB, sif_run under 5 KB, sif_start under 3 KB, sif_read_name under 1 KB, at -O3 and at -Os.
+ *   docs/TARGETS.md has the other processors. */
 #ifndef SIF_H
 #define SIF_H
 

@@ -69,7 +69,7 @@ fn checked(texts: &Texts) -> (String, Faults) {
     let listed = layout::checked(texts, &header, &named, &mut faults);
     let left = literals::checked(texts, &mut faults);
     (
-        format!("{count} refusals and stops, {listed} sizes, places and limits; {left} literals left in the code, as listed"),
+        format!("{count} refusals and stops, {listed} sizes, places, limits and kinds; {left} literals left in the code, as listed"),
         faults,
     )
 }

@@ -99,7 +99,7 @@ const WRONG: [(&str, &str, &str, &str); 48] = [
         "PROGRAM_START: 34946 in the code",
     ),
     ("crates/sifv/src/lib.rt", "VALUE_KEYS: usize = 232;", "VALUE_KEYS: usize = 231;", "VALUE_KEYS: 231 in the code"),
-    ("crates/vm/src/lib.rt", "pub const STATE_MARK: usize = 47328;\n", "", "the code: STATE_MARK is not there"),
+    ("crates/stored/src/lib.rt", "pub const STATE_MARK: usize = 47328;\n", "", "the code: STATE_MARK is not there"),
     (
         "crates/tables/src/lib.rt",
         "pub const LABELS: usize = 1024;",
@@ -159,7 +159,7 @@ const WRONG: [(&str, &str, &str, &str); 48] = [
         "oracle/src/reader.rs: PAGES is not listed",
     ),
     ("crates/ast/src/lib.rt", "TEXT_BYTES: u8 = 40;", "TEXT_BYTES: u8 = 41;", "FILE_LONGEST: the limits"),
-    ("crates/execute/src/lib.rt", "    vm::STATE_NAMES + x", "    24576 + x", "crates/execute/src/lib.rt: the literal 24576"),
+    ("crates/execute/src/lib.rt", "    stored::STATE_NAMES + x", "    24576 + x", "crates/execute/src/lib.rt: the literal 24576"),
     (
         "numbers/literals.txt",
         "crates/tables/src/lib.rt 16:",

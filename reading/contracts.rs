@@ -11,7 +11,7 @@ const PUBLIC: [(&str, &str); 7] = [
     ("crates/engine/src/lib.rt", "sif_start"),
     ("crates/engine/src/lib.rt", "sif_run"),
     ("crates/engine/src/lib.rt", "sif_read_name"),
-    ("crates/engine/src/lib.rt", "call_all"),
+    ("crates/call_list/src/lib.rt", "call_all"),
     ("crates/listing/src/main.rt", "listing"),
     ("crates/numeric/src/lib.rt", "index_of"),
 ];

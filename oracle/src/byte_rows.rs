@@ -392,6 +392,12 @@ const STOPS: [(&str, u8); 18] = [
     ("NoIndex", 38),
 ];
 
+/// The stop that the definitions call so.
+pub fn stop_named(name: &str, details: &[u64]) -> Result<Stop, String> {
+    let stop = STOPS.iter().find(|stop| stop.0 == name).ok_or(format!("no stop: {name}"))?;
+    Ok(Stop::new(stop.1, details))
+}
+
 /// Reports, each with the code's start, the position, the steps and the answer.
 pub fn reports_of(table: &str) -> Result<usize, String> {
     each(&lists(table, "Row")?, table, |mut words| {
@@ -406,9 +412,8 @@ pub fn reports_of(table: &str) -> Result<usize, String> {
             ["Done"] => End::Done,
             ["Spent"] => End::Spent,
             ["Stopped", name, details @ ..] => {
-                let (_, number) = STOPS.iter().find(|stop| stop.0 == *name).ok_or("no stop")?;
                 let details: Result<Vec<u64>, _> = details.iter().map(|d| d.parse()).collect();
-                let stop = Stop::new(*number, &details.map_err(|_| "no detail")?);
+                let stop = stop_named(name, &details.map_err(|_| "no detail")?)?;
                 End::Stopped { stop, line: position + 1 - start }
             }
             _ => return Err(String::from("no answer")),

@@ -40,7 +40,7 @@ pub fn check(crates: &str) -> Result<(), String> {
         + each_read("opc/proofs/Written.antt", written_of)?;
     let buffers = each_read("tables/proofs/Rows.antt", buffers_of)?;
     let slots = each_read("sifv/proofs/Rows.antt", slots_of)?;
-    let states = each_read("vm/proofs/Rows.antt", states_of)?;
+    let states = each_read("stored/proofs/Rows.antt", states_of)?;
     let reports = each_read("vm/proofs/Reports.antt", reports_of)?;
     let numbers = "numeric/proofs/Rows.antt";
     let patterns = patterns_of(&read(numbers)?)?;

@@ -2,15 +2,13 @@
 //! give for the same script, and what a run in portions ends with.
 
 use crate::bound::bound_of_tree;
+use crate::byte_rows::stop_named;
 use crate::driver::{End, Stop};
 use crate::lower::lower_file;
 use crate::program_bytes::Code;
 use crate::terms::{abbreviations_of, paragraphs, term, Abbreviations, Term};
 use crate::tree::{file_of, is_plain, Node};
 use crate::walk::{walk, Cut};
-
-/// More steps than any of the scripts takes.
-const STEPS: u64 = 100_000;
 
 /// How many figures the table has. Every paragraph has to be read.
 pub fn figures_of(table: &str) -> Result<usize, String> {
@@ -47,7 +45,8 @@ fn figure(text: &str, short: &Abbreviations) -> Result<(), String> {
 /// What a left side is by the oracle, as text.
 fn answer(asked: &Term) -> Result<String, String> {
     let walked = |walk_of: &Term| match walk_of.parts() {
-        ("walk", [script]) => Ok(walk(&plain(script)?, STEPS)),
+        // more steps than any of the scripts takes
+        ("walk", [script]) => Ok(walk(&plain(script)?, 100_000)),
         _ => Err(format!("no walk: {walk_of:?}")),
     };
     match asked.parts() {
@@ -117,28 +116,6 @@ fn stop_text(stop: &Stop) -> String {
     format!("stopped {}{details}", stop.number)
 }
 
-/// The stops with their numbers.
-const STOPS: [(&str, u8); 18] = [
-    ("InvalidName", 20),
-    ("InvalidIncr", 21),
-    ("InvalidIncrTy", 22),
-    ("InvalidDecr", 23),
-    ("InvalidDecrTy", 24),
-    ("InvalidJump", 25),
-    ("RegNoContents", 26),
-    ("TyMismatch", 27),
-    ("NotAnArray", 28),
-    ("InvalidFnSym", 29),
-    ("EmptyCallStack", 30),
-    ("IndexOutOfBounds", 31),
-    ("EmptyRegister", 32),
-    ("KeyAbsent", 33),
-    ("Nested", 34),
-    ("StackFull", 35),
-    ("TableFull", 36),
-    ("NoIndex", 38),
-];
-
 /// A right side as text: a number, a value, how a script ends.
 fn shown(stated: &Term) -> Result<String, String> {
     match stated.parts() {
@@ -152,10 +129,8 @@ fn shown(stated: &Term) -> Result<String, String> {
             Ok(format!("Arr:[{}]", items.join(",")))
         }
         ("Stopped", [stop]) => {
-            let number = STOPS.iter().find(|(name, _)| *name == stop.head);
-            let (_, number) = number.ok_or(format!("no stop: {stop:?}"))?;
             let details = stop.args.iter().map(Term::number).collect::<Result<Vec<_>, _>>()?;
-            Ok(stop_text(&Stop::new(*number, &details)))
+            Ok(stop_text(&stop_named(&stop.head, &details)?))
         }
         (_, []) => Ok(stated.number()?.to_string()),
         _ => Err(format!("a figure cannot be read: {stated:?}")),

@@ -22,6 +22,58 @@ pub const FILE_LENGTHS: usize = 3;
 
 pub const NODE_SIZE: usize = 2;
 
+// The kinds of node by number: specs/Node.antt, `numberOf`.
+pub const KIND_PROGRAM: u8 = 1;
+
+pub const KIND_BLOCK: u8 = 2;
+
+pub const KIND_IF: u8 = 3;
+
+pub const KIND_ELIF: u8 = 4;
+
+pub const KIND_FOR: u8 = 5;
+
+pub const KIND_RETURN: u8 = 6;
+
+pub const KIND_EXPR_STMT: u8 = 7;
+
+pub const KIND_VAR_DECL: u8 = 8;
+
+pub const KIND_FN_DECL: u8 = 9;
+
+pub const KIND_TABLE: u8 = 10;
+
+pub const KIND_ITEM: u8 = 11;
+
+pub const KIND_ARRAY: u8 = 12;
+
+pub const KIND_ARRAY_ACCESS: u8 = 13;
+
+pub const KIND_ARRAY_MUT: u8 = 14;
+
+pub const KIND_CALL: u8 = 15;
+
+pub const KIND_ASSIGN: u8 = 16;
+
+pub const KIND_BINARY: u8 = 17;
+
+pub const KIND_UNARY: u8 = 18;
+
+pub const KIND_NUM: u8 = 19;
+
+pub const KIND_TEXT: u8 = 20;
+
+pub const KIND_NAME: u8 = 21;
+
+pub const KIND_TRUE: u8 = 22;
+
+pub const KIND_FALSE: u8 = 23;
+
+// Operators of a Binary by number: specs/Flat.antt, `binTokNumber`. Those that the lowering names.
+pub const TOK_LT_EQ: u8 = 7;
+
+pub const TOK_PIPE_PIPE: u8 = 12;
+
 // Limits of a tree file: nodes, bytes of a text, depth, loops nested.
 pub const NODES: u64 = 1024;
 

@@ -1,7 +1,7 @@
 -- The calls start, run and read_name on bytes, computed: every 9, with the buffer one byte short and the others as they may be; 8 and 10, their order, and that
 -- nothing is written then; accepted calls in buffers exactly long enough and longer. The numbers are document 01's ("Numbers given for the input", "Numbers
 -- given for the state", "Running"), the bytes docs/FORMATS.md's; oracle/ answers every row by the original. Each way in which a program is refused has its
--- row in crates opc and tables, each field of a state in crate vm, each report in Reports.antt there, lower in Lowered.antt here.
+-- row in crates opc and tables, each field of a state in crate stored, each report in crate vm, lower in Lowered.antt here.
 use Prim.Native.Nat.{ℕ}
 use mathlib.Core.Path.{_≡_, refl}
 use mathlib.Core.Bool.{Bool, true, _&&_}
@@ -12,7 +12,7 @@ use lib.Ieee.{ofBits, toBits}
 use Rattle.lent.specs.Bytes.{beBytes, sameBytes, concat}
 use Rattle.sifv.specs.Slot.{encodeSlot, decodeSlot}
 use Rattle.tables.specs.ProgramBytes.{decodeProgram}
-use Rattle.vm.specs.StateBytes.{encodeState, decodeState, stateOk}
+use Rattle.stored.specs.StateBytes.{encodeState, decodeState, stateOk}
 use Rattle.lent.specs.Answered.{Answered}
 use Rattle.boundary.specs.StartCall.{startCall}
 use Rattle.lent.specs.Answered.{RunAnswered}

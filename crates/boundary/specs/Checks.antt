@@ -8,7 +8,7 @@ use Rattle.lent.specs.Answered.{check}
 use Rattle.lent.specs.Lists.{isSome}
 use Rattle.lent.specs.Refusals.{programRefused, stateRefused}
 use Rattle.tables.specs.ProgramBytes.{decodeProgram, programIn}
-use Rattle.vm.specs.StateBytes.{decodeState, stateOk}
+use Rattle.stored.specs.StateBytes.{decodeState, stateOk}
 
 -- 8
 abbrev pub programCheck : List ℕ → ℕ

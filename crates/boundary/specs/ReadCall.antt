@@ -5,7 +5,7 @@ use mathlib.Core.List.{List, [], _∷_}
 use Rattle.lent.specs.Answered.{over, Answered, answered, sizeCheck, guarded}
 use Rattle.sifv.specs.Slot.{encodeSlot}
 use Rattle.vm.specs.Machine.{State}
-use Rattle.vm.specs.StateBytes.{stateSize, decodeState}
+use Rattle.stored.specs.StateBytes.{stateSize, decodeState}
 use Rattle.boundary.specs.Checks.{textCheck, aloneCheck}
 
 abbrev pub readChecks : List ℕ → ℕ → List ℕ → List ℕ

@@ -7,7 +7,7 @@ use Rattle.tables.specs.Tables.{Program}
 use Rattle.tables.specs.ProgramBytes.{programSize, programIn}
 use Rattle.vm.specs.Machine.{Ran, run}
 use Rattle.vm.specs.Report.{reportSize, report}
-use Rattle.vm.specs.StateBytes.{stateSize, encodeState, decodeState}
+use Rattle.stored.specs.StateBytes.{stateSize, encodeState, decodeState}
 use Rattle.boundary.specs.Checks.{programCheck, stateCheck, countCheck}
 
 abbrev pub runChecks : List ℕ → List ℕ → ℕ → List ℕ → List ℕ

@@ -6,7 +6,7 @@ use Rattle.lent.specs.Answered.{over, Answered, answered, sizeCheck, guarded}
 use Rattle.tables.specs.Tables.{Program}
 use Rattle.tables.specs.ProgramBytes.{programSize, programIn}
 use Rattle.vm.specs.Machine.{started}
-use Rattle.vm.specs.StateBytes.{stateSize, encodeState}
+use Rattle.stored.specs.StateBytes.{stateSize, encodeState}
 use Rattle.boundary.specs.Checks.{programCheck}
 
 abbrev pub startChecks : List ℕ → List ℕ → List ℕ

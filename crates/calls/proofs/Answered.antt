@@ -16,7 +16,7 @@ use Rattle.tables.specs.Tables.{Program}
 use Rattle.tables.specs.ProgramBytes.{decodeProgram}
 use Rattle.vm.specs.Machine.{Machine, State, started, run}
 use Rattle.vm_laws.specs.laws.Kept.{accepted-storable, storable-sound}
-use Rattle.vm.specs.StateBytes.{encodeState, decodeState, stateOk}
+use Rattle.stored.specs.StateBytes.{encodeState, decodeState, stateOk}
 use Rattle.execute.specs.inner.View.{view, locOf, Cells, Holds, Canon}
 use Rattle.execute.specs.laws.Laying.{laid-view, laid-canon, length-stack, length-frames}
 use Rattle.execute.specs.laws.Programs.{ready}

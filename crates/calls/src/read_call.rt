@@ -7,7 +7,7 @@ ghost use Rattle.boundary.specs.ReadCall.{readCall};
 pub fn read_name(state: &[u8], text: u64, out: &mut [u8]) -> u64
     ensures { λ r. ⌜ readCall (now (state .entry)) text (now (out .entry)) ≡ answered r (now (out .exit)) ⌝ }
 {
-    if state.len() < vm::STATE_SIZE {
+    if state.len() < stored::STATE_SIZE {
         return lent::BUFFER_TOO_SHORT;
     }
     if out.len() < sifv::VALUE_SIZE {
@@ -19,7 +19,7 @@ pub fn read_name(state: &[u8], text: u64, out: &mut [u8]) -> u64
     if !state::state_ok(state, opc::INSTRUCTIONS as u64) {
         return lent::STATE_REFUSED;
     }
-    let at = vm::STATE_NAMES + text as usize * sifv::VALUE_SIZE;
+    let at = stored::STATE_NAMES + text as usize * sifv::VALUE_SIZE;
     let end = at + sifv::VALUE_SIZE;
     lent::copy(out, 0, &state[at..end]);
     0

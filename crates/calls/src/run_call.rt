@@ -43,7 +43,7 @@ fn run_on(program: &[u8], state: &mut [u8], steps: u64, report: &mut [u8]) -> u6
     if 18446744073709551615 - count < steps {
         return lent::STATE_REFUSED;
     }
-    let ran = run_used(program, &mut state[0..vm::STATE_USED], n, steps, first);
+    let ran = run_used(program, &mut state[0..stored::STATE_USED], n, steps, first);
     let answer = ran.answer;
     let last = ran.progress;
     let loc = last.loc;
@@ -59,7 +59,7 @@ pub fn run(program: &[u8], state: &mut [u8], steps: u64, report: &mut [u8]) -> u
     if program.len() < tables::PROGRAM_SIZE {
         return lent::BUFFER_TOO_SHORT;
     }
-    if state.len() < vm::STATE_SIZE {
+    if state.len() < stored::STATE_SIZE {
         return lent::BUFFER_TOO_SHORT;
     }
     if report.len() < vm::REPORT_SIZE {

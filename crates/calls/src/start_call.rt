@@ -10,7 +10,7 @@ pub fn start(program: &[u8], state: &mut [u8]) -> u64
     if program.len() < tables::PROGRAM_SIZE {
         return lent::BUFFER_TOO_SHORT;
     }
-    if state.len() < vm::STATE_SIZE {
+    if state.len() < stored::STATE_SIZE {
         return lent::BUFFER_TOO_SHORT;
     }
     if !program::program_ok(program) {

@@ -16,7 +16,7 @@ use Rattle.sifv.specs.Slot.{encodeSlot, decodeSlot}
 use Rattle.tables.specs.ProgramBytes.{programSize, encodeProgram, decodeProgram}
 use Rattle.vm.specs.Machine.{Done}
 use Rattle.vm.specs.Report.{reportSize}
-use Rattle.vm.specs.StateBytes.{stateSize, encodeState, decodeState, stateOk}
+use Rattle.stored.specs.StateBytes.{stateSize, encodeState, decodeState, stateOk}
 use Rattle.walk.specs.Walk.{walk, walkCount, walkNames, walkEnd}
 use Rattle.walk.specs.Bound.{bound}
 use Rattle.boundary.specs.LowerCall.{lowerCall}

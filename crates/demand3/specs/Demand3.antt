@@ -16,7 +16,7 @@ use Rattle.boundary.specs.ReadCall.{readCall}
 use mathlib.Core.Option.{some}
 use lib.ListN.{length}
 use Rattle.sifv.specs.Slot.{encodeSlot}
-use Rattle.vm.specs.StateBytes.{decodeState}
+use Rattle.stored.specs.StateBytes.{decodeState}
 use Rattle.walk.specs.Walk.{walk, walkCount, walkNames, walkEnd}
 use Rattle.walk.specs.Bound.{bound}
 use Rattle.vm.specs.Report.{reportSize}

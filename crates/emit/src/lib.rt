@@ -16,6 +16,15 @@ ghost use Rattle.compiler.specs.Literals.{literal};
 ghost use Rattle.emit.specs.inner.Run.{kept, afterEvents, stepEvent, refuse, noRoom, counted, Ready, Did, PushesOp, Loads};
 ghost use Rattle.emit.specs.inner.Made.{Made, binCode};
 
+// Refusals and limits in the types of `Low`.
+pub const SCRIPT_TOO_LARGE: u16 = lent::SCRIPT_TOO_LARGE as u16;
+
+const NO_REGISTER: u16 = lent::NO_REGISTER as u16;
+
+const REGISTERS: u8 = opc::REGISTERS as u8;
+
+const INSTRUCTIONS: u32 = opc::INSTRUCTIONS as u32;
+
 // What events change: the next register, the instructions pushed, the records and the items written, the refusal;
 // and whether this is the pass for the declarations. 16 bytes with none between the fields: each call copies it, and every
 // level of the tree holds some on the stack.
@@ -90,8 +99,8 @@ pub fn nextreg(low: Low) -> Low
     if low.refused != 0 {
         return low;
     }
-    if 96 <= low.reg {
-        return refused(low, 7);
+    if REGISTERS <= low.reg {
+        return refused(low, SCRIPT_TOO_LARGE);
     }
     Low {
         reg: low.reg + 1,
@@ -117,7 +126,7 @@ pub fn below(low: Low) -> Low
         return low;
     }
     if low.reg == 0 {
-        return refused(low, 6);
+        return refused(low, NO_REGISTER);
     }
     low
 }
@@ -127,7 +136,8 @@ pub fn is_full(keep: bool, low: Low, n: usize) -> bool
     requires { ⌜ (low .items ≤ 1024) × (n ≤ 1024) ⌝ }
     ensures { λ r. ⌜ r ≡ noRoom keep low n ⌝ }
 {
-    (1024 <= low.count) | (keep & ((1024 <= low.recs) | (1024 < low.items as usize + n)))
+    (INSTRUCTIONS <= low.count)
+        | (keep & ((INSTRUCTIONS <= low.recs) | (opc::ENTRIES < low.items as usize + n)))
 }
 
 // An instruction is pushed, with n items where it is kept.
@@ -174,7 +184,7 @@ pub fn push_op(keep: bool, low: Low, f: opc::Fields, out: &mut [u8]) -> Low
         return low;
     }
     if is_full(keep, low, 0) {
-        return refused(low, 7);
+        return refused(low, SCRIPT_TOO_LARGE);
     }
     keep_record(keep, low.recs as usize, f, out);
     count(keep, low, 0)
@@ -209,16 +219,16 @@ pub fn fields_of(lbl: u64, code: u8, kind: u8, a: u8, b: u8, c: u8, word: u64) -
 pub fn bin_code(tok: u8) -> u8
     ensures { λ r. ⌜ r ≡ binCode tok ⌝ }
 {
-    if tok < 7 {
+    if tok < ast::TOK_LT_EQ {
         return tok;
     }
-    if tok < 12 {
+    if tok < ast::TOK_PIPE_PIPE {
         return tok + 1;
     }
-    if tok == 12 {
-        return 14;
+    if tok == ast::TOK_PIPE_PIPE {
+        return opc::BIN_LOR;
     }
-    13
+    opc::BIN_LNOT
 }
 
 pub fn push_at(keep: bool, p: Done, f: opc::Fields, out: &mut [u8]) -> Done
@@ -261,8 +271,8 @@ pub fn load_num(bodies: &[u8], keep: bool, lbl: u64, low: Low, out: &mut [u8]) -
     let word = sifv::word_of(sifv::SifVal::Num(ast::node::number(bodies)));
     load_at(
         keep,
-        start(2, 8, lbl, low),
-        fields_of(lbl, 3, 1, low.reg, 0, 0, word),
+        start(ast::NODE_SIZE, sifv::NUMBER_SIZE, lbl, low),
+        fields_of(lbl, opc::OP_LDC, opc::NUM, low.reg, 0, 0, word),
         out,
     )
 }
@@ -274,8 +284,8 @@ pub fn load_text(bodies: &[u8], keep: bool, lbl: u64, low: Low, out: &mut [u8]) 
     let t = lent::wide(bodies[0]);
     load_at(
         keep,
-        start(2, 1, lbl, low),
-        fields_of(lbl, 3, 2, low.reg, 0, 0, t),
+        start(ast::NODE_SIZE, 1, lbl, low),
+        fields_of(lbl, opc::OP_LDC, opc::STR, low.reg, 0, 0, t),
         out,
     )
 }
@@ -287,8 +297,8 @@ pub fn load_name(bodies: &[u8], keep: bool, lbl: u64, low: Low, out: &mut [u8]) 
     let x = bodies[0];
     load_at(
         keep,
-        start(2, 1, lbl, low),
-        fields_of(lbl, 4, 0, low.reg, x, 0, 0),
+        start(ast::NODE_SIZE, 1, lbl, low),
+        fields_of(lbl, opc::OP_LDN, 0, low.reg, x, 0, 0),
         out,
     )
 }
@@ -299,8 +309,8 @@ pub fn load_bl(v: u64, keep: bool, lbl: u64, low: Low, out: &mut [u8]) -> Done
 {
     load_at(
         keep,
-        start(2, 0, lbl, low),
-        fields_of(lbl, 3, 3, low.reg, 0, 0, v),
+        start(ast::NODE_SIZE, 0, lbl, low),
+        fields_of(lbl, opc::OP_LDC, opc::BL, low.reg, 0, 0, v),
         out,
     )
 }
@@ -313,8 +323,8 @@ pub fn put_num(x: u8, bodies: &[u8], keep: bool, lbl: u64, low: Low, out: &mut [
     let word = sifv::word_of(sifv::SifVal::Num(ast::node::number(bodies)));
     push_at(
         keep,
-        start(2, 8, lbl, low),
-        fields_of(lbl, 9, 1, x, 0, 0, word),
+        start(ast::NODE_SIZE, sifv::NUMBER_SIZE, lbl, low),
+        fields_of(lbl, opc::OP_STC, opc::NUM, x, 0, 0, word),
         out,
     )
 }
@@ -326,8 +336,8 @@ pub fn put_text(x: u8, bodies: &[u8], keep: bool, lbl: u64, low: Low, out: &mut 
     let t = lent::wide(bodies[0]);
     push_at(
         keep,
-        start(2, 1, lbl, low),
-        fields_of(lbl, 9, 2, x, 0, 0, t),
+        start(ast::NODE_SIZE, 1, lbl, low),
+        fields_of(lbl, opc::OP_STC, opc::STR, x, 0, 0, t),
         out,
     )
 }
@@ -339,8 +349,8 @@ pub fn put_name(x: u8, bodies: &[u8], keep: bool, lbl: u64, low: Low, out: &mut 
     let y = bodies[0];
     push_at(
         keep,
-        start(2, 1, lbl, low),
-        fields_of(lbl, 10, 0, y, x, 0, 0),
+        start(ast::NODE_SIZE, 1, lbl, low),
+        fields_of(lbl, opc::OP_STN, 0, y, x, 0, 0),
         out,
     )
 }
@@ -352,8 +362,8 @@ pub fn put_bl(x: u8, t: bool, keep: bool, lbl: u64, low: Low, out: &mut [u8]) ->
     let word = sifv::word_of(sifv::SifVal::Bl(t));
     push_at(
         keep,
-        start(2, 0, lbl, low),
-        fields_of(lbl, 9, 3, x, 0, 0, word),
+        start(ast::NODE_SIZE, 0, lbl, low),
+        fields_of(lbl, opc::OP_STC, opc::BL, x, 0, 0, word),
         out,
     )
 }

@@ -114,7 +114,7 @@ pub fn put_held(out: &mut [u8], at: usize, state: &[u8]) -> usize
     requires { ⌜ (at ≤ length (now out)) × (47360 ≤ length (now state)) ⌝ }
     ensures { λ r. ⌜ Put (now (out .entry)) at (heldIn (now (state .entry))) (now (out .exit)) r ⌝ }
 {
-    let mark = lent::get_u64(state, vm::STATE_MARK);
+    let mark = lent::get_u64(state, stored::STATE_MARK);
     put_counted(out, at, b"held", ones(mark))
 }
 
@@ -123,7 +123,7 @@ fn put_name(out: &mut [u8], at: usize, state: &[u8], x: usize) -> usize
     requires { ⌜ (at ≤ length (now out)) × (47360 ≤ length (now state)) × (x < 64) ⌝ }
     ensures { λ r. ⌜ Put (now (out .entry)) at (nameLine x (decodeSlot (part (now (state .entry)) (24576 + x * 256) 256))) (now (out .exit)) r ⌝ }
 {
-    let from = vm::STATE_NAMES + x * sifv::VALUE_SIZE;
+    let from = stored::STATE_NAMES + x * sifv::VALUE_SIZE;
     let kind = sifv::kind_of(sifv::get(state, from));
     if kind == 0 {
         return at;
@@ -154,7 +154,7 @@ pub fn put_ran(out: &mut [u8], at: usize, state: &[u8], report: &[u8]) -> usize
     requires { ⌜ (at ≤ length (now out)) × (47360 ≤ length (now state)) × (48 ≤ length (now report)) ⌝ }
     ensures { λ r. ⌜ Put (now (out .entry)) at (ranIn (now (state .entry)) (now (report .entry))) (now (out .exit)) r ⌝ }
 {
-    let p = put_end(out, at, report, lent::get_u64(state, vm::STATE_COUNT));
+    let p = put_end(out, at, report, lent::get_u64(state, stored::STATE_COUNT));
     let q = put_held(out, p, state);
     put_names(out, q, state)
 }

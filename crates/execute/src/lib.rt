@@ -6,7 +6,7 @@ ghost use Prim.Native.Nat.{_+_, _*_, _%_, _≤_, _<_};
 ghost use mathlib.Core.Bool.{cond};
 ghost use mathlib.Core.Option.{some};
 ghost use lib.Dec.{eqb};
-ghost use Rattle.vm.specs.StateBytes.{stackAt, framesAt, functionsAt};
+ghost use Rattle.stored.specs.StateBytes.{stackAt, framesAt, functionsAt};
 ghost use lib.ListN.{length, getD};
 ghost use Rattle.lent.specs.Bytes.{part, splice};
 ghost use Rattle.sifv.specs.Value.{One, Bl};
@@ -255,7 +255,7 @@ pub fn slot(x: usize) -> usize
     requires { ⌜ x < 64 ⌝ }
     ensures { λ a. ⌜ a ≡ 24576 + x * 256 ⌝ }
 {
-    vm::STATE_NAMES + x * sifv::VALUE_SIZE
+    stored::STATE_NAMES + x * sifv::VALUE_SIZE
 }
 
 // A value into register dest, or the stop: the one writer of what the readers below get.
@@ -685,10 +685,10 @@ fn push(state: &mut [u8], loc: Loc, src: usize) -> Step
         return Step::Stops(empty_register());
     }
     let depth = loc.depth;
-    if vm::VALUE_STACK <= depth {
+    if stored::VALUE_STACK <= depth {
         return Step::Stops(stack_full());
     }
-    sifv::move_to(state, from, vm::STATE_STACK + depth * sifv::VALUE_SIZE);
+    sifv::move_to(state, from, stored::STATE_STACK + depth * sifv::VALUE_SIZE);
     Step::Goes(Loc {
         pos: loc.pos + 1,
         depth: depth + 1,
@@ -707,7 +707,7 @@ fn pop(state: &mut [u8], loc: Loc, dest: usize) -> Step
         return Step::Goes(on(loc));
     }
     let n = depth - 1;
-    let at = vm::STATE_STACK + n * sifv::VALUE_SIZE;
+    let at = stored::STATE_STACK + n * sifv::VALUE_SIZE;
     sifv::move_to(state, at, to);
     sifv::set(state, at, SifVal::Empty);
     Step::Goes(Loc {
@@ -721,17 +721,17 @@ fn call(state: &mut [u8], loc: Loc, name: usize) -> Step
     requires { ⌜ Holds (now state) (view (now state) loc) × (loc .calls ≤ 24) × (loc .pos ≤ 1024) × (name < 64) ⌝ }
     ensures { λ r. ⌜ Stepped (now (state .entry)) (now (state .exit)) (Machine.call (view (now (state .entry)) loc) name (functionsAt (now (state .entry)) name)) r ⌝ }
 {
-    let t = lent::get_u16(state, vm::STATE_FUNCTIONS + name * tables::INDEX_SIZE) as usize;
+    let t = lent::get_u16(state, stored::STATE_FUNCTIONS + name * tables::INDEX_SIZE) as usize;
     if t == 0 {
         return Step::Stops(invalid_fn_sym(name));
     }
     let calls = loc.calls;
-    if vm::CALL_STACK <= calls {
+    if stored::CALL_STACK <= calls {
         return Step::Stops(stack_full());
     }
     lent::put_u16(
         state,
-        vm::STATE_CALLS + calls * vm::FRAME_SIZE,
+        stored::STATE_CALLS + calls * stored::FRAME_SIZE,
         loc.pos as u64,
     );
     Step::Goes(Loc {
@@ -750,7 +750,7 @@ fn ret(state: &mut [u8], loc: Loc) -> Step
         return Step::Stops(empty_call_stack());
     }
     let n = calls - 1;
-    let at = vm::STATE_CALLS + n * vm::FRAME_SIZE;
+    let at = stored::STATE_CALLS + n * stored::FRAME_SIZE;
     let t = lent::get_u16(state, at) as usize;
     lent::put_u16(state, at, 0);
     Step::Goes(Loc {
@@ -809,7 +809,7 @@ fn declare(state: &mut [u8], loc: Loc, name: usize) -> Step
 {
     lent::put_u16(
         state,
-        vm::STATE_FUNCTIONS + name * tables::INDEX_SIZE,
+        stored::STATE_FUNCTIONS + name * tables::INDEX_SIZE,
         (loc.pos + 1) as u64,
     );
     Step::Goes(on(loc))

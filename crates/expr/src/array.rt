@@ -21,22 +21,22 @@ fn val_from_primary(kind: u8, bodies: &[u8], at: usize) -> sifv::SifVal
     requires { ⌜ (kind ≡ 19 → at + 8 ≤ length (now bodies)) × (kind ≡ 20 → at < length (now bodies)) ⌝ }
     ensures { λ r. ⌜ singleSeen r ≡ valueAt kind (now (bodies .entry)) at ⌝ }
 {
-    if kind == 19 {
+    if kind == ast::KIND_NUM {
         return sifv::SifVal::Num(numeric::from_bits(lent::get_u64(bodies, at)));
     }
-    if kind == 20 {
+    if kind == ast::KIND_TEXT {
         return sifv::SifVal::Str(lent::wide(bodies[at]));
     }
-    sifv::SifVal::Bl(kind == 22)
+    sifv::SifVal::Bl(kind == ast::KIND_TRUE)
 }
 
 fn lit_size(kind: u8) -> usize
     ensures { λ r. ⌜ r ≡ litSize kind ⌝ }
 {
-    if kind == 19 {
-        return 8;
+    if kind == ast::KIND_NUM {
+        return sifv::NUMBER_SIZE;
     }
-    if kind == 20 {
+    if kind == ast::KIND_TEXT {
         return 1;
     }
     0
@@ -69,7 +69,7 @@ fn arrayitems(
     let mut at = 1;
     let mut i = 0;
     while i < n {
-        let kind = contents[2 + 2 * i];
+        let kind = contents[ast::NODE_SIZE + ast::NODE_SIZE * i];
         let v = val_from_primary(kind, bodies, at);
         keep_item(keep, k + i, v, out);
         at += lit_size(kind);
@@ -87,7 +87,7 @@ fn push_items(keep: bool, low: emit::Low, f: opc::Fields, n: usize, out: &mut [u
         return low;
     }
     if emit::is_full(keep, low, n) {
-        return emit::refused(low, 7);
+        return emit::refused(low, emit::SCRIPT_TOO_LARGE);
     }
     emit::keep_record(keep, low.recs as usize, f, out);
     emit::count(keep, low, n)
@@ -97,8 +97,8 @@ fn array_fields(lbl: u64, name: u8, n: u8, items: usize) -> opc::Fields
     ensures { λ r. ⌜ fieldsTold r ≡ fields lbl 9 5 name 0 0 n items ⌝ }
 {
     opc::Fields {
-        code: 9,
-        kind: 5,
+        code: opc::OP_STC,
+        kind: opc::ARR,
         lbl,
         a: name,
         b: 0,
@@ -128,5 +128,5 @@ pub fn arraydecl(
     let f = array_fields(lbl, bodies[0], n, k);
     let q = push_items(keep, low, f, m, out);
     let end = arrayitems(m, contents, bodies, low.recs < q.recs, k, out);
-    emit::start(2 + 2 * m, end, lbl, q)
+    emit::start(ast::NODE_SIZE + ast::NODE_SIZE * m, end, lbl, q)
 }

@@ -21,31 +21,31 @@ pub fn expr(
     ensures { λ r. ⌜ Front exprs (now (contents .entry)) (now (bodies .entry)) keep lbl low (now (out .entry)) r (now (out .exit)) ⌝ }
 {
     let kind = contents[0];
-    if kind == 14 {
+    if kind == ast::KIND_ARRAY_MUT {
         return arraymutexpr(contents, bodies, keep, lbl, low, out);
     }
-    if kind == 15 {
+    if kind == ast::KIND_CALL {
         return fncallexpr(contents, bodies, keep, lbl, low, out);
     }
-    if kind == 16 {
+    if kind == ast::KIND_ASSIGN {
         return varassign(contents, bodies, keep, lbl, low, out);
     }
-    if kind == 17 {
+    if kind == ast::KIND_BINARY {
         return binop(contents, bodies, keep, lbl, low, out);
     }
-    if kind == 18 {
+    if kind == ast::KIND_UNARY {
         return unop(contents, bodies, keep, lbl, low, out);
     }
-    if kind == 19 {
+    if kind == ast::KIND_NUM {
         return emit::load_num(bodies, keep, lbl, low, out);
     }
-    if kind == 20 {
+    if kind == ast::KIND_TEXT {
         return emit::load_text(bodies, keep, lbl, low, out);
     }
-    if kind == 21 {
+    if kind == ast::KIND_NAME {
         return emit::load_name(bodies, keep, lbl, low, out);
     }
-    emit::start(2, 0, lbl, low)
+    emit::start(ast::NODE_SIZE, 0, lbl, low)
 }
 
 // The expression at the place that p has reached.
@@ -79,14 +79,14 @@ fn arraymutexpr(
     ensures { λ r. ⌜ Front exprs (now (contents .entry)) (now (bodies .entry)) keep lbl low (now (out .entry)) r (now (out .exit)) ⌝ }
 {
     let name = bodies[0];
-    let s = skip::skip(&contents[2..], &bodies[1..]);
-    let p = emit::start(2 + s.entries, 1 + s.bodies, lbl, low);
+    let s = skip::skip(&contents[ast::NODE_SIZE..], &bodies[1..]);
+    let p = emit::start(ast::NODE_SIZE + s.entries, 1 + s.bodies, lbl, low);
     let v = expr_at(contents, bodies, keep, p, out);
-    let q = emit::start(2, 1, lbl, emit::below(v.low));
+    let q = emit::start(ast::NODE_SIZE, 1, lbl, emit::below(v.low));
     let i = expr_at(contents, bodies, keep, q, out);
     let f = emit::fields_of(
         lbl,
-        8,
+        opc::OP_UPDA,
         0,
         name,
         emit::prevreg(i.low),
@@ -109,10 +109,10 @@ fn binarg(
     ensures { λ r. ⌜ Front args (now (contents .entry)) (now (bodies .entry)) keep lbl low (now (out .entry)) r (now (out .exit)) ⌝ }
 {
     let kind = contents[0];
-    if kind == 22 {
+    if kind == ast::KIND_TRUE {
         return emit::load_bl(1, keep, lbl, low, out);
     }
-    if kind == 23 {
+    if kind == ast::KIND_FALSE {
         return emit::load_bl(0, keep, lbl, low, out);
     }
     expr(contents, bodies, keep, lbl, low, out)
@@ -148,12 +148,12 @@ fn binop(
     ensures { λ r. ⌜ Front exprs (now (contents .entry)) (now (bodies .entry)) keep lbl low (now (out .entry)) r (now (out .exit)) ⌝ }
 {
     let kind = emit::bin_code(bodies[0]);
-    let p = emit::start(2, 1, lbl, low);
+    let p = emit::start(ast::NODE_SIZE, 1, lbl, low);
     let a = binarg_at(contents, bodies, keep, p, out);
     let b = binarg_at(contents, bodies, keep, a, out);
     let f = emit::fields_of(
         lbl,
-        1,
+        opc::OP_BINARY,
         kind,
         emit::prevreg(a.low),
         emit::prevreg(b.low),
@@ -176,9 +176,17 @@ fn unop(
     ensures { λ r. ⌜ Front exprs (now (contents .entry)) (now (bodies .entry)) keep lbl low (now (out .entry)) r (now (out .exit)) ⌝ }
 {
     let kind = bodies[0];
-    let p = emit::start(2, 1, lbl, low);
+    let p = emit::start(ast::NODE_SIZE, 1, lbl, low);
     let a = binarg_at(contents, bodies, keep, p, out);
-    let f = emit::fields_of(lbl, 2, kind, emit::prevreg(a.low), a.low.reg, 0, 0);
+    let f = emit::fields_of(
+        lbl,
+        opc::OP_UNARY,
+        kind,
+        emit::prevreg(a.low),
+        a.low.reg,
+        0,
+        0,
+    );
     emit::load_at(keep, a, f, out)
 }
 
@@ -198,7 +206,15 @@ fn params(
     let mut more = n;
     while 0 < more {
         let a = expr_at(contents, bodies, keep, q, out);
-        let f = emit::fields_of(q.lbl, 19, 0, emit::prevreg(a.low), 0, 0, 0);
+        let f = emit::fields_of(
+            q.lbl,
+            opc::OP_FN_STACK_PUSH,
+            0,
+            emit::prevreg(a.low),
+            0,
+            0,
+            0,
+        );
         q = emit::push_at(keep, a, f, out);
         more -= 1;
     }
@@ -219,11 +235,11 @@ pub fn fncallexpr(
 {
     let name = bodies[0];
     let n = contents[1];
-    let p = emit::start(2, 1, lbl, low);
+    let p = emit::start(ast::NODE_SIZE, 1, lbl, low);
     let a = params(n, contents, bodies, keep, p, out);
-    let f = emit::fields_of(lbl, 17, 0, name, 0, 0, lent::wide(n));
+    let f = emit::fields_of(lbl, opc::OP_CALL, 0, name, 0, 0, lent::wide(n));
     let b = emit::push_at(keep, a, f, out);
-    let g = emit::fields_of(lbl, 20, 0, b.low.reg, 0, 0, 0);
+    let g = emit::fields_of(lbl, opc::OP_FN_STACK_POP, 0, b.low.reg, 0, 0, 0);
     emit::load_at(keep, b, g, out)
 }
 
@@ -240,7 +256,7 @@ fn varassign(
     ensures { λ r. ⌜ Front exprs (now (contents .entry)) (now (bodies .entry)) keep lbl low (now (out .entry)) r (now (out .exit)) ⌝ }
 {
     let x = bodies[0];
-    let p = emit::start(2, 1, lbl, low);
+    let p = emit::start(ast::NODE_SIZE, 1, lbl, low);
     assign_at(x, contents, bodies, keep, p, out)
 }
 
@@ -258,26 +274,26 @@ fn assign(
     ensures { λ r. ⌜ Front (rights x) (now (contents .entry)) (now (bodies .entry)) keep lbl low (now (out .entry)) r (now (out .exit)) ⌝ }
 {
     let kind = contents[0];
-    if kind == 10 {
+    if kind == ast::KIND_TABLE {
         return match_table_assign(x, contents, bodies, keep, lbl, low, out);
     }
-    if kind == 12 {
+    if kind == ast::KIND_ARRAY {
         return array::arraydecl(x, contents, bodies, keep, lbl, low, out);
     }
-    if kind == 13 {
+    if kind == ast::KIND_ARRAY_ACCESS {
         return arrayaccess(x, contents, bodies, keep, lbl, low, out);
     }
-    if kind == 19 {
+    if kind == ast::KIND_NUM {
         return emit::put_num(x, bodies, keep, lbl, low, out);
     }
-    if kind == 20 {
+    if kind == ast::KIND_TEXT {
         return emit::put_text(x, bodies, keep, lbl, low, out);
     }
-    if kind == 21 {
+    if kind == ast::KIND_NAME {
         return emit::put_name(x, bodies, keep, lbl, low, out);
     }
-    if 21 < kind {
-        return emit::put_bl(x, kind == 22, keep, lbl, low, out);
+    if ast::KIND_NAME < kind {
+        return emit::put_bl(x, kind == ast::KIND_TRUE, keep, lbl, low, out);
     }
     expr_assign(x, contents, bodies, keep, lbl, low, out)
 }
@@ -296,7 +312,7 @@ fn expr_assign(
     ensures { λ r. ⌜ Front (storedParts x) (now (contents .entry)) (now (bodies .entry)) keep lbl low (now (out .entry)) r (now (out .exit)) ⌝ }
 {
     let a = expr(contents, bodies, keep, lbl, low, out);
-    let f = emit::fields_of(lbl, 11, 0, emit::prevreg(a.low), x, 0, 0);
+    let f = emit::fields_of(lbl, opc::OP_STR, 0, emit::prevreg(a.low), x, 0, 0);
     emit::push_at(keep, a, f, out)
 }
 
@@ -343,9 +359,9 @@ fn table_items(
     while 0 < more {
         let at = q.body;
         let key = bodies[at];
-        let i = emit::pass(q, 2, 1);
+        let i = emit::pass(q, ast::NODE_SIZE, 1);
         let a = expr_at(contents, bodies, keep, i, out);
-        let f = emit::fields_of(q.lbl, 21, 0, x, key, emit::prevreg(a.low), 0);
+        let f = emit::fields_of(q.lbl, opc::OP_TBLI, 0, x, key, emit::prevreg(a.low), 0);
         q = emit::push_at(keep, a, f, out);
         more -= 1;
     }
@@ -366,8 +382,8 @@ fn match_table_assign(
     ensures { λ r. ⌜ Front (rights x) (now (contents .entry)) (now (bodies .entry)) keep lbl low (now (out .entry)) r (now (out .exit)) ⌝ }
 {
     let n = contents[1];
-    let p = emit::start(2, 0, lbl, low);
-    let f = emit::fields_of(lbl, 9, 6, x, 0, 0, 0);
+    let p = emit::start(ast::NODE_SIZE, 0, lbl, low);
+    let f = emit::fields_of(lbl, opc::OP_STC, opc::TAB, x, 0, 0, 0);
     let a = emit::push_at(keep, p, f, out);
     table_items(n, x, contents, bodies, keep, a, out)
 }
@@ -387,10 +403,18 @@ fn arrayaccess(
     ensures { λ r. ⌜ Front (rights x) (now (contents .entry)) (now (bodies .entry)) keep lbl low (now (out .entry)) r (now (out .exit)) ⌝ }
 {
     let name = bodies[0];
-    let p = emit::start(2, 1, lbl, low);
+    let p = emit::start(ast::NODE_SIZE, 1, lbl, low);
     let a = expr_at(contents, bodies, keep, p, out);
-    let f = emit::fields_of(lbl, 7, 0, name, emit::prevreg(a.low), a.low.reg, 0);
+    let f = emit::fields_of(
+        lbl,
+        opc::OP_LDAV,
+        0,
+        name,
+        emit::prevreg(a.low),
+        a.low.reg,
+        0,
+    );
     let d = emit::load_at(keep, a, f, out);
-    let g = emit::fields_of(lbl, 11, 0, emit::prevreg(d.low), x, 0, 0);
+    let g = emit::fields_of(lbl, opc::OP_STR, 0, emit::prevreg(d.low), x, 0, 0);
     emit::push_at(keep, d, g, out)
 }

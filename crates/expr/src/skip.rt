@@ -16,13 +16,13 @@ pub struct Extent {
 fn body_size(kind: u8) -> usize
     ensures { λ r. ⌜ r ≡ bodyLength kind ⌝ }
 {
-    if kind == 19 {
-        return 8;
+    if kind == ast::KIND_NUM {
+        return sifv::NUMBER_SIZE;
     }
-    if kind == 10 {
+    if kind == ast::KIND_TABLE {
         return 0;
     }
-    if 21 < kind {
+    if ast::KIND_NAME < kind {
         return 0;
     }
     1
@@ -39,7 +39,7 @@ pub fn skip(entries: &[u8], bodies: &[u8]) -> Extent
     while 0 < more {
         v += body_size(entries[u]);
         more = more + entries[u + 1] as usize - 1;
-        u += 2;
+        u += ast::NODE_SIZE;
     }
     Extent {
         entries: u,

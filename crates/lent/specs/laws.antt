@@ -6,3 +6,4 @@ pub mod Parts
 pub mod Same
 pub mod Slots
 pub mod Truths
+pub mod Zeros

@@ -1,8 +1,10 @@
 // Bytes of lent buffers: big-endian numbers in them, copies, fills and comparisons.
 ghost use mathlib.Core.Path.{_≡_};
-ghost use Prim.Native.Nat.{_+_, _%_, _≤_, _<_};
-ghost use lib.ListN.{length, replicate};
+ghost use Prim.Native.Nat.{_+_, _*_, _%_, _≤_, _<_};
+ghost use lib.Dec.{eqb};
+ghost use lib.ListN.{length, getD, replicate};
 ghost use Rattle.lent.specs.Bytes.{beValue, beBytes, part, splice, sameBytes};
+ghost use Rattle.lent.specs.inner.Words.{leValue, four, eight};
 
 // The refusals: specs/Refusals.antt.
 pub const FILE_CUT: u64 = 1;
@@ -77,6 +79,28 @@ pub fn get_u64(s: &[u8], at: usize) -> u64
     let b = a * 256 + get_u8(s, at + 5);
     let c = b * 256 + get_u8(s, at + 6);
     c * 256 + get_u8(s, at + 7)
+}
+
+// Two, four, eight bytes as one number, the first the lowest: read at once.
+fn low2(s: &[u8], at: usize) -> u64
+    requires { ⌜ at + 2 ≤ length (now s) ⌝ }
+    ensures { λ r. ⌜ (r ≡ getD (now (s .entry)) at 0 + 256 * getD (now (s .entry)) (at + 1) 0) × (r < 65536) ⌝ }
+{
+    wide(s[at]) + 256 * wide(s[at + 1])
+}
+
+fn low4(s: &[u8], at: usize) -> u64
+    requires { ⌜ at + 4 ≤ length (now s) ⌝ }
+    ensures { λ r. ⌜ (r ≡ leValue (four (now (s .entry)) at)) × (r < 4294967296) ⌝ }
+{
+    low2(s, at) + 65536 * low2(s, at + 2)
+}
+
+pub fn low8(s: &[u8], at: usize) -> u64
+    requires { ⌜ at + 8 ≤ length (now s) ⌝ }
+    ensures { λ r. ⌜ r ≡ leValue (eight (now (s .entry)) at) ⌝ }
+{
+    low4(s, at) + 4294967296 * low4(s, at + 4)
 }
 
 // The low bytes of v, written from at on: one, two, four, eight of them.
@@ -165,8 +189,22 @@ pub fn same(a: &[u8], at: usize, b: &[u8], bt: usize, n: usize) -> bool
     ok
 }
 
-// Whether the n bytes from at on are 0. All are looked at.
-pub fn all_zero(s: &[u8], at: usize, n: usize) -> bool
+// The bits that any of the n times eight bytes from at on has: 0 where all of them are.
+fn bits(s: &[u8], at: usize, n: usize) -> u64
+    requires { ⌜ at + n * 8 ≤ length (now s) ⌝ }
+    ensures { λ r. ⌜ eqb r 0 ≡ sameBytes (part (now (s .entry)) at (n * 8)) (replicate (n * 8) 0) ⌝ }
+{
+    let mut seen: u64 = 0;
+    let mut i = 0;
+    while i < n {
+        seen = seen | low8(s, at + i * 8);
+        i += 1;
+    }
+    seen
+}
+
+// Whether the n bytes from at on are 0, one by one.
+fn each_zero(s: &[u8], at: usize, n: usize) -> bool
     requires { ⌜ at + n ≤ length (now s) ⌝ }
     ensures { λ r. ⌜ r ≡ sameBytes (part (now (s .entry)) at n) (replicate n 0) ⌝ }
 {
@@ -179,6 +217,15 @@ pub fn all_zero(s: &[u8], at: usize, n: usize) -> bool
         i += 1;
     }
     ok
+}
+
+// Whether the n bytes from at on are 0: eight at a time, then those that are left. All are looked at.
+pub fn all_zero(s: &[u8], at: usize, n: usize) -> bool
+    requires { ⌜ at + n ≤ length (now s) ⌝ }
+    ensures { λ r. ⌜ r ≡ sameBytes (part (now (s .entry)) at n) (replicate n 0) ⌝ }
+{
+    let words = n / 8;
+    (bits(s, at, words) == 0) & each_zero(s, at + words * 8, n % 8)
 }
 
 // The eight bytes from `from` on, written from `to` on. All are read before any is written.

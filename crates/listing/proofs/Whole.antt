@@ -14,7 +14,7 @@ use Rattle.tables.specs.Tables.{Program}
 use Rattle.tables.specs.ProgramBytes.{programSize, decodeProgram, orEmpty, programIn}
 use Rattle.compiler.specs.Lower.{Lowered, refused, lowered, lower}
 use Rattle.vm.specs.Machine.{started, run}
-use Rattle.vm.specs.StateBytes.{stateSize, encodeState}
+use Rattle.stored.specs.StateBytes.{stateSize, encodeState}
 use Rattle.vm_laws.specs.laws.Kept.{started-storable}
 use Rattle.walk.specs.Bound.{bound}
 use Rattle.vm.specs.Report.{reportSize, report}

@@ -61,7 +61,7 @@ fn listing(file: &[u8], out: &mut [u8]) -> usize
     ensures { λ r. ⌜ Put (now (out .entry)) 0 (listing (now (file .entry))) (now (out .exit)) r ⌝ }
 {
     let mut program = [0u8; tables::PROGRAM_SIZE];
-    let mut state = [0u8; vm::STATE_SIZE];
+    let mut state = [0u8; stored::STATE_SIZE];
     let mut report = [0u8; vm::REPORT_SIZE];
     list(file, &mut program, &mut state, &mut report, out)
 }

@@ -8,7 +8,7 @@ use Rattle.sifv.specs.Value.{Value}
 use Rattle.tables.specs.Tables.{Program}
 use Rattle.vm.specs.RuntimeErr.{stopNumber, details}
 use Rattle.vm.specs.Machine.{State, Answer, Done, Stopped, Spent, Ran, line}
-use Rattle.vm.specs.StateBytes.{mark}
+use Rattle.stored.specs.StateBytes.{mark}
 use Rattle.text.specs.Text.{ascii, decimal, valueText, words, lineOf}
 
 abbrev pub signed : ℤ → List ℕ

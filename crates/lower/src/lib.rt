@@ -25,12 +25,12 @@ fn finish(program: &mut [u8], n: usize, start: usize)
     lent::put_u16(program, tables::PROGRAM_START, start as u64);
 }
 
-// Whether a node declares a function: kind 9.
+// Whether a node declares a function.
 fn declares(entries: &[u8]) -> bool {
     let mut found = false;
     let mut i = 0;
     while i < entries.len() {
-        found = found | (entries[i] == 9);
+        found = found | (entries[i] == ast::KIND_FN_DECL);
         i += ast::NODE_SIZE;
     }
     found

@@ -1,13 +1,13 @@
 -- The stored tables against those of the code: `labelBytes` and `functionBytes`.
 use mathlib.Core.Path.{_≡_, refl, sym, ap, ap₂, _∙_}
-use mathlib.Core.Bool.{Bool, true, false, cond, not, _&&_}
+use mathlib.Core.Bool.{Bool, true, false, cond, not, _&&_, and-assoc}
 use mathlib.Core.List.{List, [], _∷_, _++_}
 use mathlib.Core.Option.{Option, none, some}
 use Prim.Native.Nat.{ℕ, zero, suc, _+_, _*_, _-_, _≤_, _<_}
 use native.Mathlib.Omega.{arith}
 use lib.Dec.{T, ltb, eqb}
 use lib.ListN.{length, getD}
-use borrow.Author.Tests.{eqb-true, eqb-false, eq-eqb, ne-eqb, lt-ltb}
+use borrow.Author.Tests.{ltb-true, eqb-true, eqb-false, eq-eqb, ne-eqb, lt-ltb}
 use Rattle.lent.specs.Bytes.{beValue, beBytes, part, sameBytes, concat, AreBytes}
 use Rattle.lent.specs.laws.Each.{each-part}
 use Rattle.lent.specs.laws.Parts.{length-part, part-add}
@@ -17,9 +17,9 @@ use Rattle.opc.specs.Op.{label, op, Code}
 use Rattle.tables.specs.Tables.{declares, entered, labelAt, declared, functionAt}
 use Rattle.tables.specs.ProgramBytes.{indexWord, labelBytes, functionBytes}
 use Rattle.records.specs.inner.Fits.{allFrom}
-use Rattle.program.specs.inner.Marked.{lblOf, nameOf, isFn, enters, marked, labelEntry, functionEntry, sameTable}
-use Rattle.records.proofs.Scan.{scan-same}
-use Rattle.lent.specs.Lists.{tabulate, each}
+use Rattle.program.specs.inner.Marked.{lblOf, fewLabel, nameOf, isFn, enters, marked, labelEntry, functionEntry, sameTable}
+use Rattle.records.proofs.Scan.{scan-at, scan-same}
+use Rattle.lent.specs.Lists.{zeros, tabulate, each}
 
 -- ---- a table in its bytes
 
@@ -58,6 +58,54 @@ module _ (b : List ℕ) (bytes : AreBytes b) (at : ℕ) (h : ℕ → ℕ) where
       ap (λ (k : ℕ). sameBytes (part b k (2 * n)) (each n (λ l. beBytes 2 (h l)))) z
       ∙ table-from n 0 (omega arith) (λ l x y. omega (arith, q l, s l))
       ∙ scan-same _ _ n 0 (λ l x y. ap (eqb (beValue (part b (at + 2 * l) 2) + 1)) (q l))
+
+-- ---- a short table, and zeros behind it
+
+scan-split : (t : ℕ → Bool) (m n i : ℕ) → allFrom (m + n) i t ≡ (allFrom m i t && allFrom n (i + m) t)
+scan-split t zero n i = let e : i ≡ i + 0 = omega arith in let z : 0 + n ≡ n = omega arith in ap₂ (λ (x y : ℕ). allFrom x y t) z e
+scan-split t (suc m) n i =
+    let e : suc m + n ≡ suc (m + n) = omega arith in
+    let f : suc i + m ≡ i + suc m = omega arith in
+    ap (λ (x : ℕ). allFrom x i t) e
+    ∙ ap (λ (y : Bool). t i && y) (scan-split t m n (suc i) ∙ ap (λ (x : ℕ). allFrom m (suc i) t && allFrom n x t) f)
+    ∙ sym (and-assoc (t i) (allFrom m (suc i) t) (allFrom n (i + suc m) t))
+
+-- the bytes of entries that are 0
+zero-entries : (n i : ℕ) → concat (tabulate i n (λ (l : ℕ). beBytes 2 0)) ≡ zeros (2 * n)
+zero-entries zero i = refl
+zero-entries (suc n) i = let e : suc (suc (2 * n)) ≡ 2 * suc n = omega arith in ap (λ (l : List ℕ). 0 ∷ 0 ∷ l) (zero-entries n (suc i)) ∙ ap zeros e
+
+-- an entry that no record makes
+marked-none : (w : ℕ → Bool) (k : ℕ → ℕ) (l m i x : ℕ) → ((j : ℕ) → i ≤ j → j < i + m → k j ≡ l → ⊥) → marked w k l m i x ≡ x
+marked-none w k l zero i x h = refl
+marked-none w k l (suc m) i x h = marked-none w k l m (suc i) (cond (w i && eqb (k i) l) (i + 2) x) (λ j p q. h j (omega arith) (omega arith)) ∙ by-test (w i)
+  where
+    by-test : (t : Bool) → cond (t && eqb (k i) l) (i + 2) x ≡ x
+    by-test true = ap (λ (u : Bool). cond u (i + 2) x) (ne-eqb (k i) l (h i (omega arith) (omega arith)))
+    by-test false = refl
+
+module _ (b : List ℕ) (n : ℕ) (few : allFrom n 0 (fewLabel b) ≡ true) where
+  pub few-small : (i : ℕ) → i < n → lblOf b i < 128
+  few-small i h = ltb-true (lblOf b i) 128 (scan-at (fewLabel b) n 0 few i (omega arith) (omega arith))
+
+  few-entry : (l : ℕ) → 128 ≤ l → labelEntry b n l ≡ 1
+  few-entry l h = marked-none (enters b) (lblOf b) l n 0 (cond (ltb 0 n && eqb 0 l) 2 1) (λ j p q r. omega (arith, few-small j (omega arith))) ∙ by-test (ltb 0 n)
+    where
+      by-test : (t : Bool) → _≡_ {A = ℕ} (cond (t && eqb 0 l) 2 1) 1
+      by-test true = ap (λ (u : Bool). cond u 2 1) (ne-eqb 0 l (λ q. omega arith))
+      by-test false = refl
+
+  pub few-table : AreBytes b → 40960 ≤ length b → {r z : Bool} → r ≡ sameTable b 32768 128 (labelEntry b n) → z ≡ sameBytes (part b 33024 1792) (zeros 1792)
+      → (r && z) ≡ sameTable b 32768 1024 (labelEntry b n)
+  unfolding sameTable
+  few-table bytes room e f =
+      let t : ℕ → Bool = λ l. eqb (beValue (part b (32768 + 2 * l) 2) + 1) (labelEntry b n l) in
+      ap₂ (λ (x y : Bool). x && y) e
+      (f
+      ∙ ap (sameBytes (part b 33024 1792)) (sym (zero-entries 896 128))
+      ∙ table-from b bytes 32768 (λ (l : ℕ). 0) 896 128 (omega arith) (λ l p q. omega arith)
+      ∙ scan-same _ t 896 128 (λ l p q. ap (eqb (beValue (part b (32768 + 2 * l) 2) + 1)) (sym (few-entry l p))))
+      ∙ sym (scan-split t 128 896 0)
 
 -- a table that was made
 pub table-made : (b : List ℕ) (at size : ℕ) (t : List ℕ) (g : ℕ → ℕ) {r : Bool} → r ≡ sameTable b at (length t) (λ l. getD t l 0) → length t ≡ size → ((l : ℕ) → l < size → getD t l 0 ≡ g l)

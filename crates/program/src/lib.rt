@@ -3,14 +3,17 @@ ghost use mathlib.Core.Path.{_≡_};
 ghost use mathlib.Core.Bool.{true, cond, _&&_};
 ghost use mathlib.Core.Option.{some};
 ghost use Prim.Native.Nat.{ℕ, _+_, _*_, _/_, _%_, _≤_, _<_};
-ghost use lib.Dec.{ltb, eqb};
+ghost use lib.Dec.{leb, ltb, eqb};
 ghost use lib.ListN.{length, getD, set};
 ghost use Rattle.lent.specs.Bytes.{beValue, part};
 ghost use Rattle.tables.specs.Tables.{Program};
 ghost use Rattle.tables.specs.ProgramBytes.{decodeProgram};
 ghost use Rattle.records.specs.inner.Fits.{allFrom, recordOk};
-ghost use Rattle.program.specs.inner.Marked.{marked, lblOf, enters, labelEntry, nameOf, isFn, functionEntry, sameTable};
+ghost use Rattle.program.specs.inner.Marked.{marked, lblOf, fewLabel, enters, labelEntry, nameOf, isFn, functionEntry, sameTable};
 ghost use Rattle.lent.specs.Lists.{isSome};
+
+// The labels of a short table.
+const FEW: usize = 128;
 
 // The label of record i.
 fn label(program: &[u8], i: usize) -> u64
@@ -34,8 +37,8 @@ fn mark(t: &mut [u16], new: bool, k: usize, i: usize)
 
 // Label 0 to index 0, then each label to the last index that enters it from another label.
 fn fill_labels(program: &[u8], n: usize, t: &mut [u16])
-    requires { ⌜ (40960 ≤ length (now program)) × (n ≤ 1024) × (allFrom n 0 (recordOk (now program)) ≡ true) × (length (now t) ≡ 1024) ⌝ }
-    ensures { λ _. ⌜ (length (now (t .exit)) ≡ 1024) × ((l : ℕ) → l < 1024 → getD (now (t .exit)) l 0 ≡ marked (enters (now (program .entry))) (lblOf (now (program .entry))) l n 0 (cond (ltb 0 n && eqb 0 l) 2 (getD (now (t .entry)) l 0))) ⌝ }
+    requires { ⌜ (40960 ≤ length (now program)) × (n ≤ 1024) × ((i : ℕ) → i < n → lblOf (now program) i < length (now t)) × (0 < length (now t)) ⌝ }
+    ensures { λ _. ⌜ (length (now (t .exit)) ≡ length (now (t .entry))) × ((l : ℕ) → l < length (now (t .entry)) → getD (now (t .exit)) l 0 ≡ marked (enters (now (program .entry))) (lblOf (now (program .entry))) l n 0 (cond (ltb 0 n && eqb 0 l) 2 (getD (now (t .entry)) l 0))) ⌝ }
 {
     mark(t, 0 < n, 0, 0);
     let mut was = label(program, 0);
@@ -96,13 +99,52 @@ fn same_table(program: &[u8], at: usize, t: &[u16]) -> bool
     ok
 }
 
-fn labels_ok(program: &[u8], n: usize) -> bool
+fn all_labels_ok(program: &[u8], n: usize) -> bool
     requires { ⌜ (40960 ≤ length (now program)) × (n ≤ 1024) × (allFrom n 0 (recordOk (now program)) ≡ true) ⌝ }
     ensures { λ r. ⌜ r ≡ sameTable (now (program .entry)) 32768 1024 (labelEntry (now (program .entry)) n) ⌝ }
 {
     let mut t = [1u16; tables::LABELS];
     fill_labels(program, n, &mut t);
     same_table(program, tables::PROGRAM_LABELS, &t)
+}
+
+// Whether a program is short, and its labels are below 128.
+fn has_few(program: &[u8], n: usize) -> bool
+    requires { ⌜ (40960 ≤ length (now program)) × (n ≤ 1024) ⌝ }
+    ensures { λ r. ⌜ r ≡ (leb n 128 && allFrom n 0 (fewLabel (now (program .entry)))) ⌝ }
+{
+    if FEW < n {
+        return false;
+    }
+    let mut ok = true;
+    let mut i = 0;
+    while i < n {
+        ok = ok & ((label(program, i) as usize) < FEW);
+        i += 1;
+    }
+    ok
+}
+
+// The table of such a program: a short one, and zeros behind it.
+fn few_labels_ok(program: &[u8], n: usize) -> bool
+    requires { ⌜ (40960 ≤ length (now program)) × (n ≤ 1024) × (allFrom n 0 (fewLabel (now program)) ≡ true) ⌝ }
+    ensures { λ r. ⌜ r ≡ sameTable (now (program .entry)) 32768 1024 (labelEntry (now (program .entry)) n) ⌝ }
+{
+    let mut t = [1u16; FEW];
+    fill_labels(program, n, &mut t);
+    let rest = tables::PROGRAM_LABELS + tables::INDEX_SIZE * FEW;
+    same_table(program, tables::PROGRAM_LABELS, &t)
+        & lent::all_zero(program, rest, tables::PROGRAM_FUNCTIONS - rest)
+}
+
+fn labels_ok(program: &[u8], n: usize) -> bool
+    requires { ⌜ (40960 ≤ length (now program)) × (n ≤ 1024) × (allFrom n 0 (recordOk (now program)) ≡ true) ⌝ }
+    ensures { λ r. ⌜ r ≡ sameTable (now (program .entry)) 32768 1024 (labelEntry (now (program .entry)) n) ⌝ }
+{
+    if has_few(program, n) {
+        return few_labels_ok(program, n);
+    }
+    all_labels_ok(program, n)
 }
 
 fn functions_ok(program: &[u8], n: usize) -> bool

@@ -11,8 +11,10 @@ use lib.ListN.{length}
 use borrow.Author.Tests.{leb-true, leb-false, le-leb, lt-leb, eqb-true, eq-eqb}
 use Rattle.lent.specs.Bytes.{AreBytes, none, more}
 use Rattle.lent.specs.laws.Truths.{and-inv, test-iff}
-use Rattle.sifv.specs.laws.Layout.{and-left, and-right, and-both}
-use Rattle.records.specs.inner.Lanes.{leValue, laneMask, laneAdd}
+use Rattle.sifv.specs.laws.Layout.{and-both}
+use Rattle.lent.specs.inner.Words.{leValue}
+use Rattle.lent.specs.laws.Zeros.{zero-both}
+use Rattle.records.specs.inner.Lanes.{laneMask, laneAdd}
 
 pub split5 : (a b c d e : Bool) → (a && (b && (c && (d && e)))) ≡ true → (a ≡ true) × (b ≡ true) × (c ≡ true) × (d ≡ true) × (e ≡ true)
 split5 a b c d e q =
@@ -62,11 +64,6 @@ abbrev pub clear : List ℕ → List ℕ → Bool
 clear [] ms = true
 clear (x ∷ xs) [] = true
 clear (x ∷ xs) (m ∷ ms) = eqb (bitAnd x m) 0 && clear xs ms
-
-zero-both : (p q : ℕ) → eqb (p * 256 + q) 0 ≡ (eqb q 0 && eqb p 0)
-zero-both p q =
-    test-iff _ _ (λ e. and-both (eq-eqb q 0 (omega (arith, eqb-true (p * 256 + q) 0 e))) (eq-eqb p 0 (omega (arith, eqb-true (p * 256 + q) 0 e))))
-    (λ e. eq-eqb (p * 256 + q) 0 (omega (arith, eqb-true q 0 (and-left (eqb q 0) (eqb p 0) e), eqb-true p 0 (and-right (eqb q 0) (eqb p 0) e))))
 
 pub and-clear : (xs ms : List ℕ) → AreBytes xs → AreBytes ms → length xs ≡ length ms → eqb (bitAnd (leValue xs) (leValue ms)) 0 ≡ clear xs ms
 and-clear [] [] bx bm e = refl

@@ -1,4 +1,3 @@
-pub mod Missed
 pub mod Scan
 pub mod Bits
 pub mod Places

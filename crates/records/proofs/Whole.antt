@@ -14,7 +14,8 @@ use Rattle.lent.specs.laws.Truths.{and-inv, test-iff}
 use Rattle.sifv.specs.laws.Layout.{and-left, and-right, and-both}
 use Rattle.opc.specs.Record.{fieldsOf, lblOk}
 use Rattle.records.specs.inner.Fits.{limitTable, noKind, limitsOf, operandsFit, kindFits, wordFits, singleMost, isLiteral, literalFits, recordFits, entryFits}
-use Rattle.records.specs.inner.Lanes.{leValue, eight, laneMask, laneAdd, masks, adds, highMask, anyMask, wordMask, singleMask, limitWords}
+use Rattle.lent.specs.inner.Words.{leValue, eight}
+use Rattle.records.specs.inner.Lanes.{laneMask, laneAdd, masks, adds, highMask, anyMask, wordMask, singleMask, limitWords}
 use Rattle.records.proofs.Bits.{and-252, and-255, and-192, and-254, and-0, and-clear, laneOk, mask-small, add-small, lane-small, lane-out, lane-in, five, five-split, and-five, split5, sum-eight}
 use Rattle.records.proofs.Places.{first-byte, byte-of, word-of}
 

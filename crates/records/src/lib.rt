@@ -2,45 +2,24 @@
 ghost use mathlib.Core.Path.{_≡_};
 ghost use mathlib.Core.Bool.{true, cond, not, _&&_, _||_};
 ghost use mathlib.Core.List.{[], _∷_};
-ghost use Prim.Native.Nat.{_+_, _*_, _/_, _%_, _≤_, _<_};
+ghost use Prim.Native.Nat.{_+_, _/_, _%_, _≤_, _<_};
 ghost use lib.Dec.{eqb};
 ghost use lib.Bits.{bitAnd};
-ghost use lib.ListN.{length, getD};
+ghost use lib.ListN.{length};
 ghost use Rattle.opc.specs.inner.Fetch.{recordAt};
 ghost use Rattle.records.specs.inner.Fits.{allFrom, limitsOf, isLiteral, recordOk, isArray, entryOk, spanFits, entriesFit, pooled, taken, poolFits};
-ghost use Rattle.records.specs.inner.Lanes.{leValue, four, eight, limitWords, singleMask};
+ghost use Rattle.lent.specs.inner.Words.{leValue, eight};
+ghost use Rattle.records.specs.inner.Lanes.{limitWords, singleMask};
 
 // Past the pool: no entries fit from here on.
 const PAST: usize = opc::ENTRIES + 1;
 
-// Two, four, eight bytes as one number, the first the lowest: read at once.
-fn low2(program: &[u8], at: usize) -> u64
-    requires { ⌜ at + 2 ≤ length (now program) ⌝ }
-    ensures { λ r. ⌜ (r ≡ getD (now (program .entry)) at 0 + 256 * getD (now (program .entry)) (at + 1) 0) × (r < 65536) ⌝ }
-{
-    lent::wide(program[at]) + 256 * lent::wide(program[at + 1])
-}
-
-fn low4(program: &[u8], at: usize) -> u64
-    requires { ⌜ at + 4 ≤ length (now program) ⌝ }
-    ensures { λ r. ⌜ (r ≡ leValue (four (now (program .entry)) at)) × (r < 4294967296) ⌝ }
-{
-    low2(program, at) + 65536 * low2(program, at + 2)
-}
-
-fn low8(program: &[u8], at: usize) -> u64
-    requires { ⌜ at + 8 ≤ length (now program) ⌝ }
-    ensures { λ r. ⌜ r ≡ leValue (eight (now (program .entry)) at) ⌝ }
-{
-    low4(program, at) + 4294967296 * low4(program, at + 4)
-}
-
-// The same, in a function of its own: the compiler makes one read of the eight bytes here, and not where it is inlined with the tests.
+// Eight bytes as one number, the first the lowest, in a function of its own: the compiler makes one read of them here, and not where it is inlined with the tests.
 fn eight_at(program: &[u8], at: usize) -> u64
     requires { ⌜ at + 8 ≤ length (now program) ⌝ }
     ensures { λ r. ⌜ r ≡ leValue (eight (now (program .entry)) at) ⌝ }
 {
-    low8(program, at)
+    lent::low8(program, at)
 }
 
 // What an operation allows. A record's first eight bytes fit where no bit of the mask is set in

@@ -1,7 +1,7 @@
 // Replays the stored files and programs (cases/README.md) through the four calls, in one run and in portions, and prints counts.
 ghost use Prim.Native.Nat.{_+_, _*_, _≤_, _<_};
 ghost use lib.ListN.{length};
-use engine::Last;
+use call_list::Last;
 
 // The steps that a file's program is given.
 const STEPS: u64 = 100000;
@@ -145,7 +145,7 @@ fn portions(program: &[u8], steps: u64, state: &[u8], report: &[u8]) -> bool {
     in_portions(&mut list, steps);
     let mut own = [0u8; 65536];
     calls::start_call::start(program, &mut own);
-    let last = engine::call_all(program, &mut own, &list);
+    let last = call_list::call_all(program, &mut own, &list);
     if !same_state(&own, state) {
         return false;
     }

@@ -6,7 +6,7 @@ ghost use Prim.Native.Nat.{_≤_};
 ghost use lib.ListN.{length, drop};
 ghost use Rattle.tables.specs.ProgramBytes.{decodeProgram};
 ghost use Rattle.vm.specs.Machine as Machine;
-ghost use Rattle.vm.specs.StateBytes.{encodeState, stateOk};
+ghost use Rattle.stored.specs.StateBytes.{encodeState, stateOk};
 ghost use Rattle.execute.specs.inner.View.{Holds, view};
 ghost use Rattle.execute.specs.inner.Progress.{stateOf};
 ghost use Rattle.state.specs.inner.Fields.{locAt, progressAt, kindBit, markOf, placeOk, frameOk, slotsOk, stackOk, framesOk, fnsOk, smallOk};
@@ -20,9 +20,9 @@ fn loc_of(state: &[u8]) -> Loc
     ensures { λ r. ⌜ r ≡ locAt (now (state .entry)) ⌝ }
 {
     Loc {
-        pos: lent::get_u16(state, vm::STATE_POSITION) as usize,
-        depth: lent::get_u8(state, vm::STATE_STACK_DEPTH) as usize,
-        calls: lent::get_u8(state, vm::STATE_CALLS_DEPTH) as usize,
+        pos: lent::get_u16(state, stored::STATE_POSITION) as usize,
+        depth: lent::get_u8(state, stored::STATE_STACK_DEPTH) as usize,
+        calls: lent::get_u8(state, stored::STATE_CALLS_DEPTH) as usize,
     }
 }
 
@@ -33,7 +33,7 @@ pub fn progress_of(state: &[u8]) -> Progress
 {
     Progress {
         loc: loc_of(state),
-        count: lent::get_u64(state, vm::STATE_COUNT),
+        count: lent::get_u64(state, stored::STATE_COUNT),
     }
 }
 
@@ -56,7 +56,7 @@ fn mark_of(state: &[u8]) -> u64
     let mut x: usize = lent::TEXTS;
     while 0 < x {
         x -= 1;
-        m = 2 * m + held(state[vm::STATE_NAMES + x * sifv::VALUE_SIZE]);
+        m = 2 * m + held(state[stored::STATE_NAMES + x * sifv::VALUE_SIZE]);
     }
     m
 }
@@ -69,7 +69,7 @@ fn slots_ok(state: &[u8]) -> bool
 {
     let mut ok = true;
     let mut i = 0;
-    while i < vm::STATE_SLOTS {
+    while i < stored::STATE_SLOTS {
         ok = ok & sifv::slot_ok(state, i * sifv::VALUE_SIZE);
         i += 1;
     }
@@ -91,8 +91,8 @@ fn stack_ok(state: &[u8], depth: usize) -> bool
 {
     let mut ok = true;
     let mut i = 0;
-    while i < vm::VALUE_STACK {
-        ok = ok & place_ok(i < depth, state[vm::STATE_STACK + i * sifv::VALUE_SIZE]);
+    while i < stored::VALUE_STACK {
+        ok = ok & place_ok(i < depth, state[stored::STATE_STACK + i * sifv::VALUE_SIZE]);
         i += 1;
     }
     ok
@@ -107,14 +107,15 @@ fn frame_ok(inside: bool, pos: u64, n: u64) -> bool
     pos == 0
 }
 
-fn frames_ok(state: &[u8], calls: usize, n: u64) -> bool
+// Frames, one by one.
+fn each_frame_ok(state: &[u8], calls: usize, n: u64) -> bool
     requires { ⌜ 47360 ≤ length (now state) ⌝ }
     ensures { λ r. ⌜ r ≡ framesOk (now (state .entry)) calls n ⌝ }
 {
     let mut ok = true;
     let mut i = 0;
-    while i < vm::CALL_STACK {
-        let at = vm::STATE_CALLS + i * vm::FRAME_SIZE;
+    while i < stored::CALL_STACK {
+        let at = stored::STATE_CALLS + i * stored::FRAME_SIZE;
         ok = ok
             & (frame_ok(i < calls, lent::get_u16(state, at), n)
                 & (lent::get_u16(state, at + 2) == 0));
@@ -123,17 +124,42 @@ fn frames_ok(state: &[u8], calls: usize, n: u64) -> bool
     ok
 }
 
-fn fns_ok(state: &[u8], n: u64) -> bool
+// Frames; where nothing is called, all are 0.
+fn frames_ok(state: &[u8], calls: usize, n: u64) -> bool
+    requires { ⌜ 47360 ≤ length (now state) ⌝ }
+    ensures { λ r. ⌜ r ≡ framesOk (now (state .entry)) calls n ⌝ }
+{
+    let size = stored::STATE_FUNCTIONS - stored::STATE_CALLS;
+    if (calls == 0) & lent::all_zero(state, stored::STATE_CALLS, size) {
+        return true;
+    }
+    each_frame_ok(state, calls, n)
+}
+
+// Functions, one by one.
+fn each_fn_ok(state: &[u8], n: u64) -> bool
     requires { ⌜ 47360 ≤ length (now state) ⌝ }
     ensures { λ r. ⌜ r ≡ fnsOk (now (state .entry)) n ⌝ }
 {
     let mut ok = true;
     let mut x = 0;
     while x < lent::TEXTS {
-        ok = ok & (lent::get_u16(state, vm::STATE_FUNCTIONS + x * tables::INDEX_SIZE) <= n);
+        ok = ok & (lent::get_u16(state, stored::STATE_FUNCTIONS + x * tables::INDEX_SIZE) <= n);
         x += 1;
     }
     ok
+}
+
+// Functions; where a program has none, all are 0.
+fn fns_ok(state: &[u8], n: u64) -> bool
+    requires { ⌜ 47360 ≤ length (now state) ⌝ }
+    ensures { λ r. ⌜ r ≡ fnsOk (now (state .entry)) n ⌝ }
+{
+    let size = stored::STATE_MARK - stored::STATE_FUNCTIONS;
+    if lent::all_zero(state, stored::STATE_FUNCTIONS, size) {
+        return true;
+    }
+    each_fn_ok(state, n)
 }
 
 // Depths, position, the bytes behind them.
@@ -142,10 +168,10 @@ fn small_ok(state: &[u8], n: u64) -> bool
     ensures { λ r. ⌜ r ≡ smallOk n (now (state .entry)) ⌝ }
 {
     let loc = loc_of(state);
-    (loc.depth <= vm::VALUE_STACK)
-        & ((loc.calls <= vm::CALL_STACK)
-            & ((lent::get_u16(state, vm::STATE_POSITION) <= n)
-                & lent::all_zero(state, vm::STATE_REST, 12)))
+    (loc.depth <= stored::VALUE_STACK)
+        & ((loc.calls <= stored::CALL_STACK)
+            & ((lent::get_u16(state, stored::STATE_POSITION) <= n)
+                & lent::all_zero(state, stored::STATE_REST, 12)))
 }
 
 // Whether the bytes are an accepted state. Every field is looked at.
@@ -155,7 +181,7 @@ pub fn state_ok(state: &[u8], n: u64) -> bool
 {
     let loc = loc_of(state);
     let stacks = stack_ok(state, loc.depth) & frames_ok(state, loc.calls, n);
-    let tables = fns_ok(state, n) & (mark_of(state) == lent::get_u64(state, vm::STATE_MARK));
+    let tables = fns_ok(state, n) & (mark_of(state) == lent::get_u64(state, stored::STATE_MARK));
     small_ok(state, n) & (stacks & (tables & slots_ok(state)))
 }
 
@@ -167,11 +193,11 @@ pub fn write_back(state: &mut [u8], p: Progress)
     ensures { λ _. ⌜ now (state .exit) ≡ encodeState (stateOf (now (state .entry)) p) ++ drop 47360 (now (state .entry)) ⌝ }
 {
     let loc = p.loc;
-    lent::put_u64(state, vm::STATE_MARK, mark_of(state));
-    lent::put_u64(state, vm::STATE_COUNT, p.count);
-    lent::put_u16(state, vm::STATE_POSITION, loc.pos as u64);
-    lent::put_u8(state, vm::STATE_STACK_DEPTH, loc.depth as u64);
-    lent::put_u8(state, vm::STATE_CALLS_DEPTH, loc.calls as u64);
+    lent::put_u64(state, stored::STATE_MARK, mark_of(state));
+    lent::put_u64(state, stored::STATE_COUNT, p.count);
+    lent::put_u16(state, stored::STATE_POSITION, loc.pos as u64);
+    lent::put_u8(state, stored::STATE_STACK_DEPTH, loc.depth as u64);
+    lent::put_u8(state, stored::STATE_CALLS_DEPTH, loc.calls as u64);
 }
 
 // ---- at the start
@@ -181,15 +207,15 @@ pub fn start(program: &[u8], state: &mut [u8])
     requires { ⌜ (40960 ≤ length (now program)) × (47360 ≤ length (now state)) × (decodeProgram (now program) ≡ some (programIn (now program))) ⌝ }
     ensures { λ _. ⌜ now (state .exit) ≡ encodeState (Machine.started (programIn (now (program .entry)))) ++ drop 47360 (now (state .entry)) ⌝ }
 {
-    lent::clear(state, vm::STATE_USED);
+    lent::clear(state, stored::STATE_USED);
     lent::copy(
         state,
-        vm::STATE_FUNCTIONS,
+        stored::STATE_FUNCTIONS,
         &program[tables::PROGRAM_FUNCTIONS..tables::PROGRAM_COUNT],
     );
     lent::put_u16(
         state,
-        vm::STATE_POSITION,
+        stored::STATE_POSITION,
         lent::get_u16(program, tables::PROGRAM_START),
     );
 }

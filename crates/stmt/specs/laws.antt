@@ -1,4 +1,5 @@
 -- Laws and lemmas, and definitions that only proofs need. A reader may skip them.
+pub mod ArmParts
 pub mod Arms
 pub mod Ends
 pub mod FnLaws

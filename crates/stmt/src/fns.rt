@@ -32,7 +32,7 @@ fn keep_fn(keep: bool, lbl: u64, low: emit::Low, name: u8, names: &[u8], out: &m
     if keep {
         param_items(names, low.items as usize, out);
         let f = opc::Fields {
-            code: 16,
+            code: opc::OP_FN,
             kind: 0,
             lbl,
             a: name,
@@ -62,7 +62,7 @@ fn push_fn(
     }
     let n = names.len();
     if emit::is_full(keep, low, n) {
-        return emit::refused(low, 7);
+        return emit::refused(low, emit::SCRIPT_TOO_LARGE);
     }
     keep_fn(keep, lbl, low, name, names, out);
     emit::count(keep, low, n)
@@ -87,8 +87,18 @@ fn pop(r: u8, x: u8, keep: bool, lbl: u64, low: emit::Low, out: &mut [u8]) -> em
     requires { ⌜ Ready low (now out) ⌝ }
     ensures { λ d. ⌜ ((w : Place) → keep ≡ kept (low .decls) (w .section) → Did (push w lbl (FnStackPop r) ∷ (push w lbl (Str r x) ∷ [])) low (now (out .entry)) d (now (out .exit))) ⌝ }
 {
-    let a = emit::push_op(keep, low, emit::fields_of(lbl, 20, 0, r, 0, 0, 0), out);
-    emit::push_op(keep, a, emit::fields_of(lbl, 11, 0, r, x, 0, 0), out)
+    let a = emit::push_op(
+        keep,
+        low,
+        emit::fields_of(lbl, opc::OP_FN_STACK_POP, 0, r, 0, 0, 0),
+        out,
+    );
+    emit::push_op(
+        keep,
+        a,
+        emit::fields_of(lbl, opc::OP_STR, 0, r, x, 0, 0),
+        out,
+    )
 }
 
 // The parameters, popped in written order to the registers from reg on.
@@ -124,5 +134,5 @@ pub fn fn_head(
     let q = nextregs(count - 1, low);
     let f = push_fn(keep, lbl, q, bodies[0], &bodies[1..count], out);
     let d = pops(&bodies[1..count], low.reg, keep, lbl, f, out);
-    emit::start(2 * count, count, lbl, d)
+    emit::start(ast::NODE_SIZE * count, count, lbl, d)
 }

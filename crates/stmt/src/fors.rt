@@ -9,7 +9,7 @@ ghost use Rattle.stmt.specs.inner.Parts.{Emitted, forHead, forTail, sour
 pub fn source_name(kind: u8, x: u8) -> u8
     ensures { λ r. ⌜ r ≡ sourceText kind x ⌝ }
 {
-    if kind == 21 { x } else { 0 }
+    if kind == ast::KIND_NAME { x } else { 0 }
 }
 
 // What stands at the front: a Name gives nothing; a call is stored in `fortmp`.
@@ -24,12 +24,12 @@ fn source(
     requires { ⌜ Reads sources (now contents) (now bodies) low (now out) ⌝ }
     ensures { λ r. ⌜ Front sources (now (contents .entry)) (now (bodies .entry)) keep lbl low (now (out .entry)) r (now (out .exit)) ⌝ }
 {
-    if contents[0] == 21 {
-        return emit::start(2, 1, lbl, low);
+    if contents[0] == ast::KIND_NAME {
+        return emit::start(ast::NODE_SIZE, 1, lbl, low);
     }
     let a = expr::expr(contents, bodies, keep, lbl, low, out);
     let reg = emit::prevreg(a.low);
-    let f = emit::fields_of(lbl, 11, 0, reg, 0, 0, 0);
+    let f = emit::fields_of(lbl, opc::OP_STR, 0, reg, 0, 0, 0);
     emit::push_at(keep, a, f, out)
 }
 
@@ -64,24 +64,34 @@ pub fn for_head(
     ensures { λ d. ⌜ Emitted (forHead i v name r (p .lbl) (p .low .reg)) (p .lbl + 1) keep p (now (out .entry)) d (now (out .exit)) ⌝ }
 {
     let l = p.lbl;
-    let a = emit::push_at(keep, p, emit::fields_of(l, 9, 1, i, 0, 0, 0), out);
+    let a = emit::push_at(
+        keep,
+        p,
+        emit::fields_of(l, opc::OP_STC, opc::NUM, i, 0, 0, 0),
+        out,
+    );
     let b = emit::load_at(
         keep,
         a,
-        emit::fields_of(l, 6, 0, name, a.low.reg, 0, 0),
+        emit::fields_of(l, opc::OP_LDAS, 0, name, a.low.reg, 0, 0),
         out,
     );
-    let c = emit::push_at(keep, b, emit::fields_of(l + 1, 4, 0, r, i, 0, 0), out);
+    let c = emit::push_at(
+        keep,
+        b,
+        emit::fields_of(l + 1, opc::OP_LDN, 0, r, i, 0, 0),
+        out,
+    );
     let d = emit::load_at(
         keep,
         c,
-        emit::fields_of(l + 1, 7, 0, name, r, c.low.reg, 0),
+        emit::fields_of(l + 1, opc::OP_LDAV, 0, name, r, c.low.reg, 0),
         out,
     );
     let e = emit::push_at(
         keep,
         d,
-        emit::fields_of(l + 1, 11, 0, c.low.reg, v, 0, 0),
+        emit::fields_of(l + 1, opc::OP_STR, 0, c.low.reg, v, 0, 0),
         out,
     );
     emit::newlbl(e)
@@ -101,18 +111,23 @@ pub fn for_tail(
     ensures { λ d. ⌜ Emitted (forTail i r size lbl (p .lbl) (p .low .reg)) (p .lbl) keep p (now (out .entry)) d (now (out .exit)) ⌝ }
 {
     let m = p.lbl;
-    let a = emit::push_at(keep, p, emit::fields_of(m, 14, 0, r, 0, 0, 0), out);
-    let b = emit::push_at(keep, a, emit::fields_of(m, 11, 0, r, i, 0, 0), out);
+    let a = emit::push_at(
+        keep,
+        p,
+        emit::fields_of(m, opc::OP_INCRR, 0, r, 0, 0, 0),
+        out,
+    );
+    let b = emit::push_at(keep, a, emit::fields_of(m, opc::OP_STR, 0, r, i, 0, 0), out);
     let c = emit::load_at(
         keep,
         b,
-        emit::fields_of(m, 1, 9, r, size, b.low.reg, 0),
+        emit::fields_of(m, opc::OP_BINARY, opc::BIN_LT, r, size, b.low.reg, 0),
         out,
     );
     emit::push_at(
         keep,
         c,
-        emit::fields_of(m, 12, 1, b.low.reg, 0, 0, lbl),
+        emit::fields_of(m, opc::OP_JMP_CND, opc::JMPT, b.low.reg, 0, 0, lbl),
         out,
     )
 }

@@ -9,13 +9,20 @@ ghost use Rattle.compiler.specs.Lower.{prev, push};
 ghost use Rattle.emit.specs.inner.Run.{Ready};
 ghost use Rattle.stmt.specs.inner.Parts.{Emitted, retarget, endLabel, lastWaiting, Waits, targets, written, nextArm};
 
+// From a record's number, where a jump has its target, to the record's end.
+const NUMBER_TO_END: usize = opc::RECORD_SIZE - opc::RECORD_NUMBER;
+
 // The target of the jump that was pushed between a and b.
 pub fn update_op_at(a: emit::Low, b: emit::Low, lblidx: u64, out: &mut [u8])
     requires { ⌜ (b .recs ≤ 1024) × (40960 ≤ length (now out)) ⌝ }
     ensures { λ _. ⌜ now (out .exit) ≡ retarget a b lblidx (now (out .entry)) ⌝ }
 {
     if a.recs < b.recs {
-        lent::put_u64(out, 16 * (a.recs as usize) + 8, lblidx);
+        lent::put_u64(
+            out,
+            opc::RECORD_SIZE * (a.recs as usize) + opc::RECORD_NUMBER,
+            lblidx,
+        );
         return;
     }
 }
@@ -26,7 +33,7 @@ pub fn jump_false(keep: bool, p: emit::Done, out: &mut [u8]) -> emit::Done
     ensures { λ r. ⌜ Emitted (λ w. push w (p .lbl) (JmpCnd Jmpf (prev (p .low .reg)) 0) ∷ []) (p .lbl + 1) keep p (now (out .entry)) r (now (out .exit)) ⌝ }
 {
     let reg = emit::prevreg(p.low);
-    let f = emit::fields_of(p.lbl, 12, 2, reg, 0, 0, 0);
+    let f = emit::fields_of(p.lbl, opc::OP_JMP_CND, opc::JMPF, reg, 0, 0, 0);
     let j = emit::push_at(keep, p, f, out);
     emit::newlbl(j)
 }
@@ -36,7 +43,7 @@ pub fn jump_end(last: u64, keep: bool, p: emit::Done, out: &mut [u8]) -> emit::D
     requires { ⌜ Ready (p .low) (now out) × (p .lbl + 1 < 2 ^ 64) ⌝ }
     ensures { λ r. ⌜ Emitted (λ w. push w (p .lbl) (Jmpa last) ∷ []) (p .lbl + 1) keep p (now (out .entry)) r (now (out .exit)) ⌝ }
 {
-    let f = emit::fields_of(p.lbl, 13, 0, 0, 0, 0, last);
+    let f = emit::fields_of(p.lbl, opc::OP_JMPA, 0, 0, 0, 0, last);
     let j = emit::push_at(keep, p, f, out);
     emit::newlbl(j)
 }
@@ -59,7 +66,7 @@ pub fn next_arm(more: u8, p: emit::Done) -> emit::Done
     if more == 0 {
         return p;
     }
-    emit::pass(p, 2, 0)
+    emit::pass(p, ast::NODE_SIZE, 0)
 }
 
 // The jumps that wait get their target, the last first.
@@ -70,7 +77,7 @@ pub fn update_ends(last: u64, lblidx: u64, out: &mut [u8])
 {
     let mut i = last;
     while 0 < i {
-        let at = 16 * (i as usize) - 8;
+        let at = opc::RECORD_SIZE * (i as usize) - NUMBER_TO_END;
         let before = lent::get_u64(out, at);
         lent::put_u64(out, at, lblidx);
         i = before;
@@ -81,7 +88,7 @@ pub fn nop(keep: bool, p: emit::Done, out: &mut [u8]) -> emit::Done
     requires { ⌜ Ready (p .low) (now out) ⌝ }
     ensures { λ r. ⌜ Emitted (λ w. push w (p .lbl) Nop ∷ []) (p .lbl) keep p (now (out .entry)) r (now (out .exit)) ⌝ }
 {
-    let f = emit::fields_of(p.lbl, 23, 0, 0, 0, 0, 0);
+    let f = emit::fields_of(p.lbl, opc::OP_NOP, 0, 0, 0, 0, 0);
     emit::push_at(keep, p, f, out)
 }
 

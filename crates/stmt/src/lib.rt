@@ -18,6 +18,12 @@ ghost use Rattle.emit.specs.inner.Run.{Ready, Did};
 ghost use Rattle.emit.specs.inner.Made.{Reads, Front, ReadsAt, Goes};
 ghost use Rattle.stmt.specs.inner.Parts.{statements, lists, bodies as blockBodies, heads};
 
+// An If's first children: its condition and its Block.
+const IF_HEAD: u8 = 2;
+
+// The body of a For: the names of its index and its item.
+const FOR_NAMES: usize = 2;
+
 // The statement at the front.
 fn block(
     contents: &[u8],
@@ -31,22 +37,22 @@ fn block(
     ensures { λ r. ⌜ Front (statements lbl) (now (contents .entry)) (now (bodies .entry)) keep lbl low (now (out .entry)) r (now (out .exit)) ⌝ }
 {
     let kind = contents[0];
-    if kind == 2 {
+    if kind == ast::KIND_BLOCK {
         return body(contents, bodies, keep, lbl, low, out);
     }
-    if kind == 3 {
+    if kind == ast::KIND_IF {
         return ifstmt(contents, bodies, keep, lbl, low, out);
     }
-    if kind == 5 {
+    if kind == ast::KIND_FOR {
         return forstmt(contents, bodies, keep, lbl, low, out);
     }
-    if kind == 6 {
+    if kind == ast::KIND_RETURN {
         return simple::ret(contents, bodies, keep, lbl, low, out);
     }
-    if kind == 7 {
+    if kind == ast::KIND_EXPR_STMT {
         return simple::expr_stmt(contents, bodies, keep, lbl, low, out);
     }
-    if kind == 8 {
+    if kind == ast::KIND_VAR_DECL {
         return simple::vardecl(contents, bodies, keep, lbl, low, out);
     }
     fndecl(contents, bodies, lbl, low, out)
@@ -77,7 +83,7 @@ fn body(
     ensures { λ r. ⌜ Front (statements lbl) (now (contents .entry)) (now (bodies .entry)) keep lbl low (now (out .entry)) r (now (out .exit)) ⌝ }
 {
     let n = contents[1];
-    let p = emit::start(2, 0, lbl, low);
+    let p = emit::start(ast::NODE_SIZE, 0, lbl, low);
     blocks(n, contents, bodies, keep, p, out)
 }
 
@@ -158,8 +164,8 @@ fn ifstmt(
     ensures { λ r. ⌜ Front (statements lbl) (now (contents .entry)) (now (bodies .entry)) keep lbl low (now (out .entry)) r (now (out .exit)) ⌝ }
 {
     let n = bodies[0];
-    let rest = contents[1] - 2 - n;
-    let mut q = emit::start(2, 1, lbl, low);
+    let rest = contents[1] - IF_HEAD - n;
+    let mut q = emit::start(ast::NODE_SIZE, 1, lbl, low);
     let mut more = n + 1;
     let mut last = 0u64;
     while 0 < more {
@@ -209,8 +215,8 @@ fn forstmt(
     let i = bodies[0];
     let v = bodies[1];
     let r = low.reg;
-    let name = fors::source_name(contents[2], bodies[2]);
-    let p = emit::start(2, 2, lbl, emit::nextreg(low));
+    let name = fors::source_name(contents[ast::NODE_SIZE], bodies[FOR_NAMES]);
+    let p = emit::start(ast::NODE_SIZE, FOR_NAMES, lbl, emit::nextreg(low));
     let s = fors::source_at(contents, bodies, keep, p, out);
     let h = fors::for_head(i, v, name, r, keep, s, out);
     let d = body_at(contents, bodies, keep, h, out);
@@ -224,7 +230,7 @@ pub fn lower_tree(entries: &[u8], bodies: &[u8], low: emit::Low, out: &mut [u8])
     ensures { λ r. ⌜ ((t : Stmts) → StmtsIn t → length (flat t) ≤ 1024 → now (entries .entry) ≡ entryBytes (flat t) → now (bodies .entry) ≡ bodyBytes (flat t) → T (numbersFit t) → low .reg ≡ 0 → Did (lowerTree t) low (now (out .entry)) r (now (out .exit))) ⌝ }
 {
     let keep = !low.decls;
-    let p = emit::start(2, 0, 0, low);
+    let p = emit::start(ast::NODE_SIZE, 0, 0, low);
     let d = blocks(entries[1], entries, bodies, keep, p, out);
     d.low
 }

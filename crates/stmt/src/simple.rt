@@ -12,7 +12,7 @@ fn fn_ret(keep: bool, p: emit::Done, out: &mut [u8]) -> emit::Done
     requires { ⌜ Ready (p .low) (now out) ⌝ }
     ensures { λ r. ⌜ Emitted (λ w. push w (p .lbl) FnRet ∷ []) (p .lbl) keep p (now (out .entry)) r (now (out .exit)) ⌝ }
 {
-    let f = emit::fields_of(p.lbl, 18, 0, 0, 0, 0, 0);
+    let f = emit::fields_of(p.lbl, opc::OP_FN_RET, 0, 0, 0, 0, 0);
     emit::push_at(keep, p, f, out)
 }
 
@@ -28,13 +28,13 @@ pub fn ret(
     requires { ⌜ getD (now contents) 0 0 ≡ 6 ⌝ }
     ensures { λ r. ⌜ Front (statements lbl) (now (contents .entry)) (now (bodies .entry)) keep lbl low (now (out .entry)) r (now (out .exit)) ⌝ }
 {
-    let p = emit::start(2, 0, lbl, low);
+    let p = emit::start(ast::NODE_SIZE, 0, lbl, low);
     if contents[1] == 0 {
         return fn_ret(keep, p, out);
     }
     let e = expr::expr_at(contents, bodies, keep, p, out);
     let reg = emit::prevreg(e.low);
-    let f = emit::fields_of(lbl, 19, 0, reg, 0, 0, 0);
+    let f = emit::fields_of(lbl, opc::OP_FN_STACK_PUSH, 0, reg, 0, 0, 0);
     let q = emit::push_at(keep, e, f, out);
     fn_ret(keep, q, out)
 }
@@ -51,7 +51,7 @@ pub fn expr_stmt(
     requires { ⌜ getD (now contents) 0 0 ≡ 7 ⌝ }
     ensures { λ r. ⌜ Front (statements lbl) (now (contents .entry)) (now (bodies .entry)) keep lbl low (now (out .entry)) r (now (out .exit)) ⌝ }
 {
-    let p = emit::start(2, 0, lbl, low);
+    let p = emit::start(ast::NODE_SIZE, 0, lbl, low);
     expr::expr_at(contents, bodies, keep, p, out)
 }
 
@@ -68,9 +68,9 @@ pub fn vardecl(
     ensures { λ r. ⌜ Front (statements lbl) (now (contents .entry)) (now (bodies .entry)) keep lbl low (now (out .entry)) r (now (out .exit)) ⌝ }
 {
     let name = bodies[0];
-    let p = emit::start(2, 1, lbl, low);
+    let p = emit::start(ast::NODE_SIZE, 1, lbl, low);
     if contents[1] == 0 {
-        let f = emit::fields_of(lbl, 9, 4, name, 0, 0, 0);
+        let f = emit::fields_of(lbl, opc::OP_STC, opc::NULL, name, 0, 0, 0);
         return emit::push_at(keep, p, f, out);
     }
     expr::assign_at(name, contents, bodies, keep, p, out)

@@ -5,7 +5,7 @@ use mathlib.Core.List.{List, [], _∷_}
 use Rattle.lent.specs.Answered.{RunAnswered, guarded}
 use Rattle.tables.specs.ProgramBytes.{programIn}
 use Rattle.vm.specs.Machine.{Ran}
-use Rattle.vm.specs.StateBytes.{encodeState}
+use Rattle.stored.specs.StateBytes.{encodeState}
 use Rattle.boundary.specs.Checks.{stateCheck, countCheck}
 use Rattle.boundary.specs.RunCall.{runRefused, runDeed}
 use Rattle.execute.specs.declared.Progress.{Progress}

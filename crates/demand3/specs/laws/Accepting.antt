@@ -18,7 +18,7 @@ use Rattle.tables.specs.laws.ProgramLaws.{program-length}
 use Rattle.compiler.specs.Lower.{lowered, lower, decide, refusal, lowerTree, programOf}
 use Rattle.compiler.specs.laws.Accepted.{lowered-within}
 use Rattle.vm.specs.Machine.{started}
-use Rattle.vm.specs.StateBytes.{stateSize, encodeState}
+use Rattle.stored.specs.StateBytes.{stateSize, encodeState}
 use Rattle.lent.specs.Answered.{over, Answered, answered, sizeCheck}
 use Rattle.boundary.specs.LowerCall.{lowerMade, lowerRead, lowerCall}
 use Rattle.boundary.specs.StartCall.{startCall}

@@ -16,7 +16,7 @@ use Rattle.compiler.specs.Lower.{lower, lowered}
 use Rattle.compiler.specs.Within.{StmtsIn}
 use Rattle.compiler.specs.laws.Accepted.{lowered-within, lowered-back}
 use Rattle.vm.specs.Machine.{started}
-use Rattle.vm.specs.StateBytes.{stateSize, encodeState}
+use Rattle.stored.specs.StateBytes.{stateSize, encodeState}
 use Rattle.lent.specs.Answered.{over, Answered, answered}
 use Rattle.boundary.specs.LowerCall.{lowerCall}
 use Rattle.boundary.specs.StartCall.{startCall}

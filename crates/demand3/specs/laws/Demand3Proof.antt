@@ -19,7 +19,7 @@ use Rattle.tables.specs.ProgramBytes.{programSize, programIn}
 use Rattle.compiler.specs.Lower.{lower, lowered}
 use Rattle.compiler.specs.laws.ReadWithin.{read-within}
 use Rattle.vm.specs.Machine.{started}
-use Rattle.vm.specs.StateBytes.{stateSize}
+use Rattle.stored.specs.StateBytes.{stateSize}
 use Rattle.vm_laws.specs.laws.Kept.{started-storable}
 use Rattle.walk.specs.Walk.{walk}
 use Rattle.walk.specs.Bound.{bound}

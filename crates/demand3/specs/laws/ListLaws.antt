@@ -19,7 +19,7 @@ use Rattle.tables.specs.Tables.{Program}
 use Rattle.tables.specs.ProgramBytes.{programSize, decodeProgram, programIn}
 use Rattle.vm.specs.RuntimeErr.{RuntimeErr, stopNumber, details}
 use Rattle.vm.specs.Machine.{State, Answer, Done, Stopped, Spent, Ran, run, line}
-use Rattle.vm.specs.StateBytes.{stateSize, encodeState, decodeState, stateOk}
+use Rattle.stored.specs.StateBytes.{stateSize, encodeState, decodeState, stateOk}
 use Rattle.vm_laws.specs.laws.StateLaws.{state-length, state-behind, state-accepted}
 use Rattle.vm_laws.specs.laws.RunLaws.{run-all}
 use Rattle.vm_laws.specs.laws.Kept.{run-storable, storable-more}
@@ -36,7 +36,7 @@ use Rattle.demand3.specs.CallList.{Call, Run, ReadName, outcome, stepsTo
 use Rattle.lent.specs.laws.Guarded.{check-passed, Passed, deed-done, all-passed, refused-same}
 use Rattle.opc.specs.Limits.{OpFits}
 use Rattle.tables.specs.Limits.{programOk}
-use Rattle.vm.specs.Storable.{Storable, WholeDetails}
+use Rattle.stored.specs.Storable.{Storable, WholeDetails}
 
 -- ---- a state buffer that holds the state s of a program with n instructions
 

@@ -1,7 +1,7 @@
 use borrow.Author.Needs.{needs}
 use Rattle.text.specs.laws.PutLaws.{put-none, put-length, put-within}
 use Rattle.text.specs.Put.{Put}
-use Rattle.vm.specs.StateBytes.{slotsAt}
+use Rattle.stored.specs.StateBytes.{slotsAt}
 use Rattle.listing_text.specs.Ending.{nameLines}
 use Rattle.ending.specs.laws.EndLaws.{names-turn}
 use Prim.Native.Nat.{_-_, _≤_}

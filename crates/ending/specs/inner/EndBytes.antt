@@ -7,7 +7,7 @@ use lib.IntN.{ℤ, pos, negsuc}
 use lib.ListN.{getD, take}
 use lib.Count.{onesIn}
 use Rattle.lent.specs.Bytes.{beValue, part}
-use Rattle.vm.specs.StateBytes.{slotsAt}
+use Rattle.stored.specs.StateBytes.{slotsAt}
 use Rattle.text.specs.Text.{ascii, decimal, words, lineOf}
 use Rattle.listing_text.specs.Ending.{signed, nameLines}
 

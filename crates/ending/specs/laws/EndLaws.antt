@@ -13,7 +13,7 @@ use Rattle.sifv.specs.Value as model
 use Rattle.sifv.specs.Slot.{decodeSlot}
 use Rattle.sifv.specs.inner.Seen.{seen, kindIn}
 use Rattle.sifv.specs.declared.SifVal.{SifVal}
-use Rattle.vm.specs.StateBytes.{slotsAt}
+use Rattle.stored.specs.StateBytes.{slotsAt}
 use Rattle.vm_laws.specs.laws.StateLaws.{slot-at}
 use Rattle.text.specs.Text.{ascii, decimal, numberFields, lineOf}
 use Rattle.text.specs.Put.{Put}

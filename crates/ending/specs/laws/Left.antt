@@ -7,10 +7,10 @@ use lib.ListN.{length}
 use Rattle.tables.specs.Tables.{Program}
 use Rattle.vm.specs.RuntimeErr.{RuntimeErr}
 use Rattle.vm.specs.Machine.{Stopped, Ran}
-use Rattle.vm.specs.StateBytes.{encodeState}
+use Rattle.stored.specs.StateBytes.{encodeState}
 use Rattle.vm.specs.Report.{report}
 use Rattle.tables.specs.Limits.{programOk}
-use Rattle.vm.specs.Storable.{Storable, WholeDetails}
+use Rattle.stored.specs.Storable.{Storable, WholeDetails}
 
 -- the run r from start on, its state and its report, whatever lies behind them
 pub record RunLeft (p : Program) (r : Ran) (state told : List ℕ) : Type 0 where

@@ -20,7 +20,7 @@ use Rattle.tables.specs.Tables.{Program}
 use Rattle.tables.specs.laws.ProgramLaws.{limits}
 use Rattle.vm.specs.RuntimeErr.{RuntimeErr, stopNumber, details, InvalidName, InvalidIncr, InvalidIncrTy, InvalidDecr, InvalidDecrTy, InvalidJump, RegNoContents, TyMismatch, NotAnArray, InvalidFnSym, EmptyCallStack, IndexOutOfBounds, EmptyRegister, KeyAbsent, Nested, StackFull, TableFull, NoIndex}
 use Rattle.vm.specs.Machine.{Machine, State, started, Answer, Done, Stopped, Spent, Ran, run, line}
-use Rattle.vm.specs.StateBytes.{mark, slotsAt, encodeState, decodeState}
+use Rattle.stored.specs.StateBytes.{mark, slotsAt, encodeState, decodeState}
 use Rattle.vm_laws.specs.laws.StateLaws.{parts, state-fields, state-behind}
 use Rattle.vm_laws.specs.laws.StopLaws.{stop-whole}
 use Rattle.vm_laws.specs.laws.Kept.{started-storable, run-storable}
@@ -32,7 +32,7 @@ use Rattle.ending.specs.inner.EndBytes.{signedOf, detailCount, detailsIn
 use Rattle.ending.specs.laws.Left.{RunLeft}
 use Rattle.opc.specs.Limits.{OpFits}
 use Rattle.tables.specs.Limits.{programOk}
-use Rattle.vm.specs.Storable.{WholeDetails}
+use Rattle.stored.specs.Storable.{WholeDetails}
 
 -- ---- the line
 

@@ -24,7 +24,7 @@ use Rattle.opc.specs.Record.{Fields, binKinds, pick, literalItems, itemsOf, reg
 use Rattle.opc.specs.inner.Fetch.{pickOr, recordAt}
 pub use Rattle.opc.specs.laws.Fetched.{Misses}
 use Rattle.opc.specs.laws.Fetched.{items-law, items-get, some-elim, when-elim, with-elim, guarded}
-use Rattle.records.proofs.Missed.{Rest, misses}
+use Rattle.opc.specs.laws.Fetched.{Rest, misses}
 use Rattle.tables.specs.Tables.{Program, labelAt, functionAt}
 pub use Rattle.tables.specs.laws.ProgramLaws.{length-tabulate}
 use Rattle.tables.specs.ProgramBytes.{indexWord, decodeCode, labelBytes, functionBytes, tablesOk, decodeProgram}

@@ -16,6 +16,10 @@ marked w k l (suc m) i x = marked w k l m (suc i) (cond (w i && eqb (k i) l) (i 
 abbrev pub lblOf : List ℕ → ℕ → ℕ
 lblOf b i = recordAt b i .lbl
 
+-- the label of record i is in a short table
+abbrev pub fewLabel : List ℕ → ℕ → Bool
+fewLabel b i = ltb (lblOf b i) 128
+
 -- record i has another label than the one before it
 abbrev pub enters : List ℕ → ℕ → Bool
 enters b i = not (eqb (lblOf b i) (lblOf b (i - 1)))

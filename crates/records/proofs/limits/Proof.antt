@@ -1,6 +1,6 @@
 use mathlib.Core.Path.{ap}
 use Rattle.opc.proofs.Laws.{none-picked}
-use Rattle.records.proofs.Missed.{misses}
+use Rattle.opc.specs.laws.Fetched.{misses}
 use Rattle.records.specs.inner.Fits.{noKind, limitTable}
 use Rattle.records.specs.inner.Lanes.{limitWords}
 use Rattle.records.proofs.limits.Statement.{statement}

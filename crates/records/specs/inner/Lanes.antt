@@ -1,22 +1,9 @@
 -- What the program check tests of a record's bytes, eight at a time. Written as the code is, and needed by its proof only. Definitions only.
-use Prim.Native.Nat.{ℕ, _+_, _*_, _-_, _/_, _%_}
+use Prim.Native.Nat.{ℕ, _-_, _/_, _%_}
 use mathlib.Core.Bool.{cond}
 use mathlib.Core.List.{List, [], _∷_}
 use lib.Dec.{leb, eqb}
-use lib.ListN.{getD}
-
--- the number that bytes spell, the lowest first
-abbrev pub leValue : List ℕ → ℕ
-leValue [] = 0
-leValue (x ∷ l) = leValue l * 256 + x
-
--- the bytes from at on
-abbrev pub four : List ℕ → ℕ → List ℕ
-four b at = getD b at 0 ∷ getD b (at + 1) 0 ∷ getD b (at + 2) 0 ∷ getD b (at + 3) 0 ∷ []
-
-abbrev pub eight : List ℕ → ℕ → List ℕ
-eight b at =
-    getD b at 0 ∷ getD b (at + 1) 0 ∷ getD b (at + 2) 0 ∷ getD b (at + 3) 0 ∷ getD b (at + 4) 0 ∷ getD b (at + 5) 0 ∷ getD b (at + 6) 0 ∷ getD b (at + 7) 0 ∷ []
+use Rattle.lent.specs.inner.Words.{leValue}
 
 -- a byte of at most l, where l is below 128: the bit that is set neither in it nor in the sum; what is added
 abbrev pub laneMask : ℕ → ℕ

@@ -9,10 +9,10 @@ use native.Mathlib.Omega.{arith}
 use lib.Dec.{leb, ltb, eqb}
 use lib.ListN.{length, getD, getElem?, take, drop, length-reverse}
 use lib.Seq.{take-take}
-use borrow.Author.Tests.{leb-true, ltb-true, ltb-false, eqb-true, eqb-false, not-true, le-leb, lt-ltb, eq-eqb, ne-eqb}
+use borrow.Author.Tests.{leb-true, ltb-true, ltb-false, eqb-true, eqb-false, not-true, le-leb, lt-ltb, le-ltb, eq-eqb, ne-eqb}
 use Rattle.lent.specs.Bytes.{beValue, beBytes, part, splice, sameBytes, AreBytes, Each, none, more}
 use Rattle.lent.specs.laws.Each.{each-part}
-use Rattle.lent.specs.laws.Parts.{length-part, part-add, part-part}
+use Rattle.lent.specs.laws.Parts.{length-part, part-add, part-part, part-replicate}
 use Rattle.lent.specs.laws.Numbers.{beBytes-beValue, beValue-one, beValue-part-lt, splice-beValue}
 use Rattle.lent.specs.laws.Same.{same-eq, eq-same}
 use Rattle.sifv.specs.Value.{Value}
@@ -23,7 +23,7 @@ use Rattle.sifv.specs.inner.Seen.{seen, kindIn}
 use Rattle.sifv.specs.laws.Formed.{kind-at-law}
 use Rattle.tables.specs.ProgramBytes.{indexWord}
 use Rattle.vm.specs.Machine.{State}
-use Rattle.vm.specs.StateBytes.{below, mark, frame, orNothing, slotsAt, stackAt, framesAt, functionsAt, wordIndex, encodeState, stateOk}
+use Rattle.stored.specs.StateBytes.{below, mark, frame, orNothing, slotsAt, stackAt, framesAt, functionsAt, wordIndex, encodeState, stateOk}
 use Rattle.vm_laws.specs.laws.StateLaws.{upto-at, slot-at, slot-none, function-at, function-none, stack-push, frames-push, each-map, each-get, each-reverse, state-accepted}
 use Rattle.vm_laws.specs.laws.Kept.{within-all-of, sound-storable}
 use Rattle.execute.specs.inner.View.{namesOf, view, Canon}
@@ -34,7 +34,7 @@ use Rattle.state.specs.laws.Marks.{mark-law}
 use Rattle.state.specs.laws.Whole.{accepted-start, accepted-mark, a-byte, written-back}
 use Rattle.execute.specs.laws.Stacks.{frame-end}
 use Rattle.lent.specs.Lists.{zeros, upto}
-use Rattle.vm.specs.Storable.{Held}
+use Rattle.stored.specs.Storable.{Held}
 
 -- ---- a scan: what is tested so far
 
@@ -47,6 +47,26 @@ scan-end t n i ok e g h = let z : i ≡ n = omega arith in e ∙ ap (λ (k : ℕ
 scan-all : (n : ℕ) (t : ℕ → Bool) → ((k : ℕ) → k < n → t k ≡ true) → upto n t ≡ true
 scan-all zero t h = refl
 scan-all (suc n) t h = and-both (scan-all n t (λ k q. h k (omega arith))) (h n (omega arith))
+
+-- ---- bytes that are all 0
+
+module _ (b : List ℕ) (at n : ℕ) (e : sameBytes (part b at n) (zeros n) ≡ true) where
+  zero-in : (j m : ℕ) → j + m ≤ n → part b (at + j) m ≡ zeros m
+  zero-in j m h = sym (part-part b at n j m h) ∙ ap (λ (l : List ℕ). part l j m) (same-eq (part b at n) (zeros n) e) ∙ part-replicate n 0 j m h
+
+-- no function, and no call
+pub fns-zero : (b : List ℕ) (n : ℕ) → sameBytes (part b 47200 128) (zeros 128) ≡ true → fnsOk b n ≡ true
+unfolding fnsOk
+fns-zero b n e = scan-all 64 (fnTest b n) (λ x h. ap (λ (l : List ℕ). leb (beValue l) n) (zero-in b 47200 128 e (x * 2) 2 (omega arith)) ∙ le-leb 0 n (omega arith))
+
+pub frames-zero : (b : List ℕ) (c n : ℕ) → c ≡ 0 → sameBytes (part b 47104 96) (zeros 96) ≡ true → framesOk b c n ≡ true
+unfolding framesOk
+frames-zero b c n z e =
+    scan-all 24 (frameTest b c n)
+    (λ i h.
+    let q : 47104 + i * 4 + 2 ≡ 47104 + (i * 4 + 2) = omega arith in
+    ap₂ (λ (t : Bool) (l : List ℕ). frameOk t (beValue l) n && eqb (beValue (part b (47104 + i * 4 + 2) 2)) 0) (le-ltb i c (omega arith)) (zero-in b 47104 96 e (i * 4) 2 (omega arith))
+    ∙ ap (λ (l : List ℕ). eqb (beValue l) 0) (ap (λ (j : ℕ). part b j 2) q ∙ zero-in b 47104 96 e (i * 4 + 2) 2 (omega arith)))
 
 -- ---- stacks read from their bytes: s n is g (n - 1), .., g 0
 

@@ -11,7 +11,7 @@ use Rattle.sifv.specs.Value.{Value, One, Num, Str, Bl, Null, Arr, Tab}
 use Rattle.sifv.specs.Slot.{decodeSlot}
 use Rattle.sifv.specs.inner.Seen.{seen, kindIn}
 use Rattle.sifv.specs.laws.Formed.{kind-at-law}
-use Rattle.vm.specs.StateBytes.{bit, mark, slotsAt}
+use Rattle.stored.specs.StateBytes.{bit, mark, slotsAt}
 use Rattle.vm_laws.specs.laws.StateLaws.{slot-at}
 use Rattle.state.specs.inner.Fields.{kindBit, markAt, markOf}
 use Rattle.sifv.specs.inner.Forms.{Formed}

@@ -20,7 +20,7 @@ use Rattle.tables.specs.ProgramBytes.{indexWord, decodeCode, labelBytes, functi
 use Rattle.tables.specs.laws.ProgramLaws.{length-each}
 use Rattle.vm.specs.Operation.{empty}
 use Rattle.vm.specs.Machine.{initial, started}
-use Rattle.vm.specs.StateBytes.{mark, encodeState}
+use Rattle.stored.specs.StateBytes.{mark, encodeState}
 use Rattle.vm_laws.specs.laws.StateLaws.{region}
 use Rattle.execute.specs.inner.View.{Holds}
 use Rattle.opc.specs.laws.Fetched.{when-elim, with-elim, guarded}

@@ -14,7 +14,7 @@ use Rattle.sifv.specs.laws.Layout.{field-behind}
 use Rattle.sifv.specs.laws.SlotLaws.{slot-length}
 use Rattle.tables.specs.ProgramBytes.{indexWord}
 use Rattle.vm.specs.Machine.{Machine, State}
-use Rattle.vm.specs.StateBytes.{slotsBytes, frame, mark, encodeState, decodeState, stateOk}
+use Rattle.stored.specs.StateBytes.{slotsBytes, frame, mark, encodeState, decodeState, stateOk}
 use Rattle.vm_laws.specs.laws.StateLaws.{slot-at, region, state-fields, state-same, length-frame, each-get, each-reverse}
 use Rattle.vm_laws.specs.laws.Kept.{accepted-storable, storable-sound}
 use Rattle.execute.specs.inner.View.{namesOf, view, locOf, Holds, Canon}
@@ -24,8 +24,8 @@ use Rattle.state.specs.inner.Fields.{locAt, markOf}
 use Rattle.state.specs.laws.Marks.{mark-law}
 use Rattle.vm_laws.specs.laws.StateLaws.{mark-fits}
 use Rattle.lent.specs.Lists.{zeros, each}
-use Rattle.vm.specs.Storable.{Storable, Held}
-use Rattle.vm.specs.inner.SoundMachine.{Sound}
+use Rattle.stored.specs.Storable.{Storable, Held}
+use Rattle.stored.specs.inner.SoundMachine.{Sound}
 use Rattle.sifv.specs.inner.Forms.{Formed}
 
 module _ (n : ℕ) (b : List ℕ) (o : n ≤ 1024) (a : AreBytes b) (l : 47360 ≤ length b) (e : stateOk n b ≡ true) where

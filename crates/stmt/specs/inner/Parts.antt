@@ -8,10 +8,10 @@ use lib.ListN.{length, replicate}
 use Rattle.lent.specs.Bytes.{beValue, beBytes, part, splice, concat}
 use Rattle.sifv.specs.Value.{Num, One, Str}
 use Rattle.opc.specs.Op.{Lt, Jmpt, Binary, Ldn, Ldas, Ldav, Stc, Str, JmpCnd, Incrr, Fn}
-use Rattle.ast.specs.Tree.{Expr, Source, Stmt, Block, IfStmt, FnDecl, Stmts, Rest}
-use Rattle.ast.specs.Flat.{flatExpr, flatSource, flatStmt, flatStmts, flatRest, stmtCount, elifCount, elseCount}
-use Rattle.ast.specs.Limits.{everyExpr, everySource, everyStmt, every, everyRest}
-use Rattle.compiler.specs.Lower.{Place, Event, Reg, push, inner, declaring, lowerPops, orNop, exprRegs, stmtLabels, stmtsLabels, restLabels, lowerExpr, lowerArm, lowerSource, lowerStmt, lowerStmts, lowerRest}
+use Rattle.ast.specs.Tree.{Expr, Source, Stmt, Block, FnDecl, Stmts}
+use Rattle.ast.specs.Flat.{flatExpr, flatSource, flatStmt, flatStmts, stmtCount}
+use Rattle.ast.specs.Limits.{everyExpr, everySource, everyStmt, every}
+use Rattle.compiler.specs.Lower.{Place, Event, Reg, push, inner, declaring, lowerPops, orNop, exprRegs, stmtLabels, stmtsLabels, lowerExpr, lowerArm, lowerSource, lowerStmt, lowerStmts}
 use Rattle.emit.specs.declared.Low.{Low}
 use Rattle.emit.specs.declared.Done.{Done}
 use Rattle.emit.specs.inner.Run.{kept, Did}
@@ -40,23 +40,6 @@ lists l m = record { nodes = flatStmts; ok = λ k. (m ≡ stmtCount k) × T (eve
 abbrev pub bodies : ℕ → ℕ → Part Stmts
 bodies l m = record { nodes = flatStmts; ok = lists l m .ok; emits = λ k w n r. orNop k w n (lowerStmts k w n r); next = λ k n. n + stmtsLabels k }
 
--- a condition and its Block, with e Elifs and m else statements behind
-pub record ArmPart : Type 0 where
-  pub test : Expr
-  pub body : Stmts
-  pub rest : Rest
-
-abbrev pub whole-if : ArmPart → Stmt
-whole-if a = IfStmt (a .test) (a .body) (a .rest)
-
-abbrev pub arms : ℕ → ℕ → ℕ → Part ArmPart
-arms l e m = record {
-  nodes = λ a. flatExpr (a .test) ++ (flatStmt (Block (a .body)) ++ flatRest (a .rest));
-  ok = λ a. (e ≡ elifCount (a .rest)) × (m ≡ elseCount (a .rest)) × T (everyStmt anyText fits (whole-if a)) × (l + stmtLabels (whole-if a) < 2 ^ 64);
-  emits = λ a. lowerStmt (whole-if a);
-  next = λ a n. n + stmtLabels (whole-if a);
-}
-
 -- a condition and its Block alone; what ends the Block jumps to t
 pub record HeadPart : Type 0 where
   pub test : Expr
@@ -70,14 +53,6 @@ heads l t = record {
       let q = r + exprRegs (a .test) in
       lowerArm w n (lowerExpr (a .test) w n r) q (orNop (a .body) w (n + 1) (lowerStmts (a .body) w (n + 1) q)) (n + 1 + stmtsLabels (a .body)) t;
   next = λ a n. n + 1 + stmtsLabels (a .body) + 1;
-}
-
-abbrev pub rests : ℕ → ℕ → ℕ → Part Rest
-rests l e m = record {
-  nodes = flatRest;
-  ok = λ k. (e ≡ elifCount k) × (m ≡ elseCount k) × T (everyRest anyText fits k) × (l + restLabels k < 2 ^ 64);
-  emits = λ k w n r. lowerRest k w n r (n + restLabels k);
-  next = λ k n. n + restLabels k;
 }
 
 -- ---- leaves: events at the place of p, with no node read; the label behind them is l

@@ -24,7 +24,8 @@ use Rattle.emit.specs.laws.Spell.{in-node, first, second-from, first-body, fits
 use Rattle.emit.specs.laws.Regs.{expr-regs}
 use Rattle.emit.specs.laws.Places.{made-as, made-start, made-reads, made-goes, made-ready, made-kept}
 use Rattle.expr.specs.inner.Parts.{exprs}
-use Rattle.stmt.specs.inner.Parts.{anyText, fits, ArmPart, whole-if, HeadPart, Emitted, retarget, written, endLabel, statements, lists, arms, heads, rests}
+use Rattle.stmt.specs.inner.Parts.{anyText, fits, HeadPart, Emitted, retarget, written, endLabel, statements, lists, heads}
+use Rattle.stmt.specs.laws.ArmParts.{ArmPart, whole-if, arms, rests}
 use Rattle.stmt.specs.laws.Regs.{block-regs}
 use Rattle.stmt.specs.laws.Patch.{Next, did-at, next-did, did-first, head-did, end-did, retarget-last, written-word}
 use Rattle.stmt.specs.laws.Ends.{Same, did-same, did-grows}

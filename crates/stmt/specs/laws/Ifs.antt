@@ -15,7 +15,8 @@ use Rattle.emit.specs.declared.Done.{Done}
 use Rattle.emit.specs.inner.Run.{Ready}
 use Rattle.emit.specs.inner.Made.{Part, ReadsAt, Goes}
 use Rattle.emit.specs.laws.Laws.{Is, yes, no, is}
-use Rattle.stmt.specs.inner.Parts.{Emitted, lastWaiting, Waits, targets, written, nextArm, endLabel, lists, arms, heads, rests}
+use Rattle.stmt.specs.inner.Parts.{Emitted, lastWaiting, Waits, targets, written, nextArm, endLabel, lists, heads}
+use Rattle.stmt.specs.laws.ArmParts.{arms, rests}
 use Rattle.stmt.specs.laws.Kinds.{goes-some, goes-ready, goes-cont}
 use Rattle.stmt.specs.laws.Ends.{Same, did-same, waits-same}
 use Rattle.stmt.specs.laws.Arms.{head-reads, rest-reads, arms-goes, arm-leaves, elif-reads, elif-goes, else-reads, else-asks, else-goes}

@@ -15,7 +15,7 @@ use Rattle.vm_laws.specs.laws.RunLaws.{run-all}
 use Rattle.vm_laws.specs.laws.Kept.{Keeps, step-keeps, storable-sound, run-storable}
 use Rattle.opc.specs.Limits.{OpFits}
 use Rattle.tables.specs.Limits.{programOk}
-use Rattle.vm.specs.Storable.{Storable, WholeDetails}
+use Rattle.stored.specs.Storable.{Storable, WholeDetails}
 
 stopped-there : (p : Program) (n : ℕ) (s : State) (e : RuntimeErr) → run p n s .answer ≡ Stopped e → step p (run p n s .state .machine) ≡ Stops e
 stopped-there p n s e = run-all p (λ (n : ℕ) (u : State) (r : Ran). r .answer ≡ Stopped e → step p (r .state .machine) ≡ Stops e)

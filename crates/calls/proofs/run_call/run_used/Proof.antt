@@ -47,7 +47,7 @@ use denote.Triple.Table.{entered, cited}
 use denote.Triple.Walked.{says, needs, Stays, stay-none, stay-none-slice, gave-slice, walkOf, AllGo, goes-none, goes-none-slice, goes-gave-slice, Walks, ends-at, walked, walk-meets}
 use denote.Exit.{yes}
 use Rattle.vm.specs.Machine as Machine
-use Rattle.vm.specs.StateBytes.{encodeState}
+use Rattle.stored.specs.StateBytes.{encodeState}
 use Rattle.execute.specs.inner.View.{Canon, Holds, view}
 use Rattle.execute.specs.inner.Progress.{stateOf}
 use Rattle.run.specs.inner.Runs.{RunEnded}

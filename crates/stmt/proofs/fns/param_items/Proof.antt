@@ -24,11 +24,22 @@ loop-holds c =
 
 loop-again : tie.Need-loop-again Inv-loop μ-loop
 loop-again c =
-    let at-loop : tie.At-loop Inv-loop μ-loop = search in let s : tie.Start Inv-loop μ-loop = search in
-    let l = at-loop .loop in let a = s .args in (omega arith, item-length (l .out) (a .k + l .i) (Str (c .before .before .before .wide .result)) (omega arith) (c .before .before .put-item .ensures .0) ∙ l .inv .1, items-turn (l .out) (a .k) (l .i) (a .names .now) (omega arith) (omega arith) (c .before .before .before .wide .ensures .0) (c .before .before .put-item .ensures .0) ∙ l .inv .2)
+    let at-loop : tie.At-loop Inv-loop μ-loop = search in
+    let s : tie.Start Inv-loop μ-loop = search in
+    let l = at-loop .loop in
+    let a = s .args in
+    let x = c .before .before .before .wide in
+    let e = c .before .before .put-item .ensures .0 in (
+      omega arith,
+      item-length (l .out) (a .k + l .i) (Str (x .result)) (omega arith) e ∙ l .inv .1,
+      items-turn (l .out) (a .k) (l .i) (a .names .now) (omega arith) (omega arith) (x .ensures .0) e ∙ l .inv .2,
+    )
 
 returns : tie.Need-returns Inv-loop μ-loop
-returns c = let l = c .before .loop in sym (items-end (l .out) (c .before .before .before .before .args .k) (l .i) (c .before .before .before .before .args .names .now) (c .loop-test .left)) ∙ l .inv .2
+returns c =
+    let s : tie.Start Inv-loop μ-loop = search in
+    let l = c .before .loop in
+    sym (items-end (l .out) (s .args .k) (l .i) (s .args .names .now) (c .loop-test .left)) ∙ l .inv .2
 
 pub param-items-spec : {M : Type 1} → statement M
 param-items-spec =

@@ -21,8 +21,12 @@ push-at-requires c κs =
 
 returns-2 : tie.Need-returns-2
 returns-2 c =
-    let at-prevreg : tie.After-prevreg = search in let at-expr : tie.After-expr = search in let else1 : tie.Else1 = search in
-    call-front (at-expr .expr .ensures) (else1 .if1 .left) (rw (at-prevreg .prevreg .ensures) at (c .before .before .before .before .fields-of .ensures)) (c .before .before .push-at .ensures)
+    let at-fields-of : tie.After-fields-of = search in
+    let at-prevreg : tie.After-prevreg = search in
+    let at-expr : tie.After-expr = search in
+    let else1 : tie.Else1 = search in
+    let f = rw (at-prevreg .prevreg .ensures) at (at-fields-of .fields-of .ensures) in
+    call-front (at-expr .expr .ensures) (else1 .if1 .left) f (c .before .before .push-at .ensures)
 
 pub source-spec : {M : Type 1} → statement M
 source-spec =

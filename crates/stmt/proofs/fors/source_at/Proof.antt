@@ -24,6 +24,6 @@ returns c =
 pub source-at-spec : {M : Type 1} → statement M
 source-at-spec =
     tie.close (tie.spec (λ c. c .before .before .before .pre .cont) (λ c. c .before .before .before .pre .cont)
-    (λ c. search needs) (λ c. c .before .before .before .before .pre .body)
-    (λ c. c .before .before .before .before .pre .body) (λ c. search needs) source-requires
+    (λ c. search needs) (λ c. let s : tie.Start = search in s .pre .body)
+    (λ c. let s : tie.Start = search in s .pre .body) (λ c. search needs) source-requires
     moved-requires (λ c. search needs) returns)

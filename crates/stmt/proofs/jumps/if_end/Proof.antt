@@ -10,8 +10,10 @@ nop-requires c κs = rw (c .before .ended .ensures) (c .before .before .before .
 
 returns : tie.Need-returns
 returns c =
+    let at-ended : tie.After-ended = search in
     let s : tie.Start = search in
-    rw (ap (λ (d : Done). d .lbl) (c .before .before .before .before .ended .ensures)) at (label-first {p = s .args .p} (c .before .before .before .before .ended .ensures) (c .before .before .nop .ensures))
+    let e = at-ended .ended .ensures in
+    rw (ap (λ (d : Done). d .lbl) e) at (label-first {p = s .args .p} e (c .before .before .nop .ensures))
 
 pub if-end-spec : {M : Type 1} → statement M
 if-end-spec = tie.close (tie.spec (λ c κs. search needs) nop-requires (λ c. search needs) returns)

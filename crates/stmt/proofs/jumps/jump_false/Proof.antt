@@ -9,8 +9,13 @@ use Rattle.stmt.proofs.jumps.jump_false.Tie as tie
 
 returns : tie.Need-returns
 returns c =
-    let at-fields-of : tie.After-fields-of = search in let at-prevreg : tie.After-prevreg = search in let s : tie.Start = search in
-    label-next (emit-one (s .args .p .lbl) (JmpCnd Jmpf (prev (s .args .p .low .reg)) 0) refl (λ j. ap fieldBytes (rw (at-prevreg .prevreg .ensures) at (at-fields-of .fields-of .ensures))) (c .before .before .before .push-at .ensures)) (c .newlbl .ensures)
+    let at-fields-of : tie.After-fields-of = search in
+    let at-prevreg : tie.After-prevreg = search in
+    let s : tie.Start = search in
+    let p = s .args .p in
+    let f = rw (at-prevreg .prevreg .ensures) at (at-fields-of .fields-of .ensures) in
+    let jump = emit-one (p .lbl) (JmpCnd Jmpf (prev (p .low .reg)) 0) refl (λ j. ap fieldBytes f) (c .before .before .before .push-at .ensures) in
+    label-next jump (c .newlbl .ensures)
 
 pub jump-false-spec : {M : Type 1} → statement M
 jump-false-spec =

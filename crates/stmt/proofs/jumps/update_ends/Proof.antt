@@ -1,5 +1,5 @@
 use native.Mathlib.Omega.{arith}
-use mathlib.Core.Path.{_≡_, refl, ap, _∙_}
+use mathlib.Core.Path.{_≡_, refl, sym, ap, _∙_}
 use mathlib.Core.List.{List}
 use Prim.Native.Nat.{ℕ, _-_, _*_}
 use lib.ListN.{length}
@@ -51,8 +51,12 @@ loop-again c =
     let s : tie.Start Inv-loop μ-loop = search in
     let l : tie.At-loop Inv-loop μ-loop = search in
     let g : tie.After-get-u64 Inv-loop μ-loop = search in
-    let u : tie.After-put-u64 Inv-loop μ-loop = search in
-    (search needs, λ xs e w. rw (g .get-u64 .ensures, u .put-u64 .ensures) (ends-turn (l .loop .inv .1 xs e w) (λ z. omega (arith, z)) (16 * l .loop .i - 8) (omega arith) (omega (arith, l .loop .inv .0, s .pre .1))))
+    let u : tie.After-put-u64 Inv-loop μ-loop = search in (
+      search needs,
+      λ xs e w.
+          let turned = ends-turn (l .loop .inv .1 xs e w) (λ z. omega (arith, z)) (16 * l .loop .i - 8) (omega arith) (omega (arith, l .loop .inv .0, s .pre .1)) in
+          rw (u .put-u64 .ensures) (rw (sym (g .get-u64 .ensures)) at turned),
+    )
 
 same-length : tie.Need-same-length Inv-loop μ-loop
 same-length c = c .before .loop .inv .0

@@ -9,7 +9,9 @@ returns c =
     rw (lt-ltb (s .args .a .recs) (s .args .b .recs) (then1 .if1 .taken)) (c .before .before .put-u64 .ensures)
 
 returns-2 : tie.Need-returns-2
-returns-2 c = rw (le-ltb (c .before .before .before .before .args .a .recs) (c .before .before .before .before .args .b .recs) (c .if1 .left))
+returns-2 c =
+    let s : tie.Start = search in
+    rw (le-ltb (s .args .a .recs) (s .args .b .recs) (c .if1 .left))
 
 pub update-op-at-spec : {M : Type 1} → statement M
 update-op-at-spec =

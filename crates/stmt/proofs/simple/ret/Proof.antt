@@ -23,8 +23,10 @@ fn-ret-requires c κs =
 
 returns : tie.Need-returns
 returns c =
-    let at-start : tie.After-start = search in let s : tie.Start = search in
-    return-front (s .args .lbl) (at-start .start .ensures) (s .pre .1) (c .before .before .before .before .if1 .taken) (c .before .before .fn-ret .ensures)
+    let then1 : tie.Then1 = search in
+    let at-start : tie.After-start = search in
+    let s : tie.Start = search in
+    return-front (s .args .lbl) (at-start .start .ensures) (s .pre .1) (then1 .if1 .taken) (c .before .before .fn-ret .ensures)
 
 expr-at-requires : tie.Need-expr-at-requires
 expr-at-requires c κs =
@@ -39,16 +41,31 @@ push-at-requires c κs =
 
 fn-ret-requires-2 : tie.Need-fn-ret-requires-2
 fn-ret-requires-2 c κs =
-    let at-fields-of : tie.After-fields-of = search in let at-prevreg : tie.After-prevreg = search in let at-expr-at : tie.After-expr-at = search in
-    let else1 : tie.Else1 = search in let at-start : tie.After-start = search in let s : tie.Start = search in
-    emitted-ready (emit-one (s .args .lbl) (FnStackPush (prev (at-expr-at .expr-at .result .low .reg))) refl (λ j. ap fieldBytes (rw (at-prevreg .prevreg .ensures) at (at-fields-of .fields-of .ensures))) (c .before .before .before .push-at .ensures)) (goes-ready exprs (result-reads (s .args .lbl) (at-start .start .ensures) (s .pre .1) (else1 .if1 .left) (s .pre .0)) (at-expr-at .expr-at .ensures))
+    let at-fields-of : tie.After-fields-of = search in
+    let at-prevreg : tie.After-prevreg = search in
+    let at-expr-at : tie.After-expr-at = search in
+    let else1 : tie.Else1 = search in
+    let at-start : tie.After-start = search in
+    let s : tie.Start = search in
+    let l = s .args .lbl in
+    let f = rw (at-prevreg .prevreg .ensures) at (at-fields-of .fields-of .ensures) in
+    let reads = result-reads l (at-start .start .ensures) (s .pre .1) (else1 .if1 .left) (s .pre .0) in
+    emitted-ready
+    (emit-one l (FnStackPush (prev (at-expr-at .expr-at .result .low .reg))) refl (λ j. ap fieldBytes f) (c .before .before .before .push-at .ensures))
+    (goes-ready exprs reads (at-expr-at .expr-at .ensures))
 
 returns-2 : tie.Need-returns-2
 returns-2 c =
-    let at-push-at : tie.After-push-at = search in let at-fields-of : tie.After-fields-of = search in let at-prevreg : tie.After-prevreg = search in
-    let at-expr-at : tie.After-expr-at = search in let else1 : tie.Else1 = search in let at-start : tie.After-start = search in
+    let at-push-at : tie.After-push-at = search in
+    let at-fields-of : tie.After-fields-of = search in
+    let at-prevreg : tie.After-prevreg = search in
+    let at-expr-at : tie.After-expr-at = search in
+    let else1 : tie.Else1 = search in
+    let at-start : tie.After-start = search in
     let s : tie.Start = search in
-    result-front (s .args .lbl) (at-start .start .ensures) (s .pre .1) (else1 .if1 .left) (at-expr-at .expr-at .ensures) (rw (at-prevreg .prevreg .ensures) at (at-fields-of .fields-of .ensures)) (at-push-at .push-at .ensures) (c .before .before .fn-ret2 .ensures)
+    let f = rw (at-prevreg .prevreg .ensures) at (at-fields-of .fields-of .ensures) in
+    result-front (s .args .lbl) (at-start .start .ensures) (s .pre .1) (else1 .if1 .left)
+    (at-expr-at .expr-at .ensures) f (at-push-at .push-at .ensures) (c .before .before .fn-ret2 .ensures)
 
 pub ret-spec : {M : Type 1} → statement M
 ret-spec =

@@ -22,8 +22,11 @@ push-at-requires c κs =
 
 returns : tie.Need-returns
 returns c =
-    let then1 : tie.Then1 = search in let at-start : tie.After-start = search in let s : tie.Start = search in
-    var-front (s .args .lbl) (at-start .start .ensures) (s .pre .1) (then1 .if1 .taken) (c .before .before .before .before .fields-of .ensures) (c .before .before .push-at .ensures)
+    let at-fields-of : tie.After-fields-of = search in
+    let then1 : tie.Then1 = search in
+    let at-start : tie.After-start = search in
+    let s : tie.Start = search in
+    var-front (s .args .lbl) (at-start .start .ensures) (s .pre .1) (then1 .if1 .taken) (at-fields-of .fields-of .ensures) (c .before .before .push-at .ensures)
 
 assign-at-requires : tie.Need-assign-at-requires
 assign-at-requires c κs =
@@ -32,8 +35,10 @@ assign-at-requires c κs =
 
 returns-2 : tie.Need-returns-2
 returns-2 c =
-    let at-start : tie.After-start = search in let s : tie.Start = search in
-    init-front (s .args .lbl) (at-start .start .ensures) (s .pre .1) (c .before .before .before .before .if1 .left) (c .before .before .assign-at .ensures)
+    let else1 : tie.Else1 = search in
+    let at-start : tie.After-start = search in
+    let s : tie.Start = search in
+    init-front (s .args .lbl) (at-start .start .ensures) (s .pre .1) (else1 .if1 .left) (c .before .before .assign-at .ensures)
 
 pub vardecl-spec : {M : Type 1} → statement M
 vardecl-spec =

@@ -1,0 +1,3 @@
+pub mod StateBytes
+pub mod Storable
+pub mod inner
