@@ -162,9 +162,9 @@ const WRONG: [(&str, &str, &str, &str); 48] = [
     ("crates/execute/src/lib.rt", "    stored::STATE_NAMES + x", "    24576 + x", "crates/execute/src/lib.rt: the literal 24576"),
     (
         "numbers/literals.txt",
-        "crates/tables/src/lib.rt 16:",
-        "crates/tables/src/lib.rt 16 17:",
-        "numbers/literals.txt: crates/tables/src/lib.rt has no literal 17",
+        "crates/program/src/lib.rt 256:",
+        "crates/program/src/lib.rt 256 17:",
+        "numbers/literals.txt: crates/program/src/lib.rt has no literal 17",
     ),
 ];
 

@@ -61,7 +61,7 @@ fn fill_functions(program: &[u8], n: usize, t: &mut [u16])
         let at = opc::RECORD_SIZE * i;
         mark(
             t,
-            program[at] == 16,
+            program[at] == opc::OP_FN,
             program[at + opc::RECORD_A] as usize,
             i,
         );

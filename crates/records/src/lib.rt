@@ -179,13 +179,13 @@ fn single_mask(kind: u64) -> u64
 fn is_literal(code: u8) -> bool
     ensures { λ r. ⌜ r ≡ isLiteral code ⌝ }
 {
-    (code == 3) | (code == 9)
+    (code == opc::OP_LDC) | (code == opc::OP_STC)
 }
 
 fn is_array(code: u8, kind: u8) -> bool
     ensures { λ r. ⌜ r ≡ isArray code kind ⌝ }
 {
-    is_literal(code) & (kind == 5)
+    is_literal(code) & (kind == opc::ARR)
 }
 
 // A literal's text or yes/no; an empty table's length: for a record of the bytes h and w that is
@@ -299,7 +299,7 @@ fn own(program: &[u8], i: usize, next: usize) -> usize
     if is_array(code, kind) {
         return entries(program, i, lent::ARRAY_ITEMS, 1, 4, next);
     }
-    if code == 16 {
+    if code == opc::OP_FN {
         return entries(program, i, opc::PARAMETERS, 2, 2, next);
     }
     next
