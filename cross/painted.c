@@ -1,28 +1,9 @@
 /* How deep the stack gets: before each call the stack below it is painted, and after it the lowest byte that is no longer as painted
  * is looked for. sif_lower is given files of the shapes that nest deepest: chains of 24 to 33 levels of every kind of statement,
  * right side and expression, accepted ones, ones that are refused for their structure (4) or for want of a register (6), and ones
- * that are too large (7). All four calls are given the stored files and programs. Freestanding, as replay.c; printed is the most
- * that each call took, with its return address where the processor puts that on the stack. */
-#include <stdint.h>
-#include "sif.h"
-
-/* data.c */
-extern const uint8_t cases[], programs[];
-extern const uint32_t cases_length, programs_length;
-void put(char c);
-
-static uint8_t program[SIF_PROGRAM_SIZE], state[SIF_STATE_SIZE], report[SIF_REPORT_SIZE], value[SIF_VALUE_SIZE];
-
-static void say(const char *s) { while (*s) put(*s++); }
-
-static void say_number(uint32_t n) {
-    char digits[11];
-    int i = 10;
-    digits[10] = 0;
-    do digits[--i] = (char)('0' + n % 10);
-    while (n /= 10);
-    say(digits + i);
-}
+ * that are too large (7). All four calls are given the stored files and programs. Printed is the most that each call took, with its
+ * return address where the processor puts that on the stack. */
+#include "stored.h"
 
 /* ---- a call on painted stack */
 
@@ -92,7 +73,9 @@ static NOINLINE uint64_t call(int which) {
     return no + room[lowest];
 }
 
-static uint32_t colour(uintptr_t at) { return (uint32_t)at * 2654435761u + 0x5bd1e995u; }
+static uint32_t turned; /* 0, or every bit: two colours that have no byte in common at any place */
+
+static uint32_t colour(uintptr_t at) { return ((uint32_t)at * 2654435761u + 0x5bd1e995u) ^ turned; }
 
 static NOINLINE void paint(uint32_t bytes) {
     for (uintptr_t at = top - bytes; at < top; at += 4) *(volatile uint32_t *)at = colour(at);
@@ -122,8 +105,13 @@ static NOINLINE uint32_t depth(int which, uint64_t *no) {
 static uint64_t measured(int which) {
     uint64_t no;
 #ifndef POINTER
+    /* on both colours: what is written may be as painted by chance, and what is taken off must not be too little */
     by = &none;
     uint32_t without = depth(which, &no);
+    turned = ~turned;
+    uint32_t again = depth(which, &no);
+    turned = ~turned;
+    if (again > without) without = again;
 #endif
     by = &engine;
     uint32_t with = depth(which, &no);
@@ -137,20 +125,14 @@ static uint64_t measured(int which) {
 }
 
 static void run_all(uint64_t steps) {
-    for (uint32_t i = 0; i < sizeof state; i++) state[i] = 0;
+    clear(state, sizeof state);
     if (measured(START)) return;
     number_given = steps;
     measured(RUN);
     for (number_given = 0; number_given < SIF_TEXTS; number_given += 40) measured(READ_NAME);
 }
 
-/* ---- the stored records, as replay.c has them */
-
-static uint64_t number(const uint8_t *at, int bytes) {
-    uint64_t n = 0;
-    while (bytes--) n = n << 8 | *at++;
-    return n;
-}
+/* ---- the stored records */
 
 static void stored_file(const uint8_t *given, uint32_t length) {
     file_at = given;
@@ -159,23 +141,15 @@ static void stored_file(const uint8_t *given, uint32_t length) {
 }
 
 static void stored_program(const uint8_t *given, uint32_t length) {
-    for (uint32_t i = 0; i < sizeof program; i++) program[i] = 0;
-    for (const uint8_t *part = given + 8; part < given + length;) {
-        uint32_t place = (uint32_t)number(part, 2), bytes = (uint32_t)number(part + 2, 2);
-        part += 4;
-        for (uint32_t i = 0; i < bytes; i++) program[place + i] = part[i];
-        part += bytes;
-    }
+    put_program(given, length);
     run_all(number(given, 8));
 }
 
 static uint32_t stored(const uint8_t *at, uint32_t bytes, void (*one)(const uint8_t *, uint32_t)) {
     uint32_t count = 0;
     for (const uint8_t *to = at + bytes; at < to; count++) {
-        uint32_t length = (uint32_t)number(at, 4);
-        one(at + 4, length);
-        at += 4 + length;
-        at += 4 + (uint32_t)number(at, 4) + 8;
+        one(at + 4, (uint32_t)number(at, 4));
+        at = sum_of(at) + 8;
     }
     return count;
 }
