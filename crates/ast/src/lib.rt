@@ -1,4 +1,6 @@
 // The tree file (document 01, "The tree file"): the refusals 1 to 5, and 39 (document 02, M-104).
+#![tactic(auto)]
+
 pub mod bodies;
 mod contents;
 pub mod node;

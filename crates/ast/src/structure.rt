@@ -9,14 +9,14 @@ ghost use Rattle.ast.specs.inner.Answer.{parsed};
 ghost use Rattle.ast.specs.inner.Pass.{Remaining, left, item_bits, then, times, stands, plan_of, plan_one, headed, branching, bit_in, bit_of, key_of, keyed_times, children, pass_over, Fit, Agrees, shifted, began, unless};
 
 // The entries' and the bodies' bytes that a subtree takes, or Bad: refused with 4.
-#[derive(Drop)]
+#[derive(Clone, Copy)]
 pub enum Checked {
     Taken(usize, usize),
     Bad,
 }
 
 // The children of a node: `first` ones at `place`, a Block or none, Elifs, statements.
-#[derive(Drop)]
+#[derive(Clone, Copy)]
 pub struct Plan {
     pub fits: bool,
     pub place: u64,

@@ -1,4 +1,6 @@
 // The bodies of a program file's records: which bytes of a record they have, and a record from its body.
+#![tactic(auto)]
+
 ghost use Rattle.std.specs.Prelude.{◌≡◌, cond, [], ◌∷◌, ◌++◌, ◌+◌, ◌-◌, ◌/◌, ◌%◌, ◌^◌, ◌≤◌, ◌<◌, eqb, length, get_or, take, drop};
 ghost use Rattle.lent.specs.Bytes.{be_bytes};
 ghost use Rattle.text.specs.Put.{Put};

@@ -1,5 +1,7 @@
 // Demand 3's bound of a plain script, from its tree file: one pass over the entries for the longest
 // array literal, one for the sum over the instructions that the nodes are lowered to.
+#![tactic(auto)]
+
 ghost use Rattle.std.specs.Prelude.{◌≡◌, cond, ◌%◌, ◌≤◌, ◌<◌, max, eqb, length, drop};
 ghost use Rattle.ast.specs.File.{read_tree};
 ghost use Rattle.bound.specs.inner.Weights as Rule;
@@ -7,7 +9,7 @@ ghost use Rattle.bound.specs.inner.Weights.{Counts, limit};
 ghost use Rattle.bound.specs.inner.BoundOf.{bound_of};
 
 // What the instructions of subtrees come to, modulo LIMIT, and the place behind their entries.
-#[derive(Drop)]
+#[derive(Clone, Copy)]
 pub struct Part {
     pub next: usize,
     pub cost: u64,

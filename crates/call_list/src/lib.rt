@@ -1,4 +1,6 @@
 // A list of calls, carried out.
+#![tactic(auto)]
+
 ghost use Rattle.std.specs.Prelude.{◌≡◌, ◌+◌, ◌*◌, ◌≤◌, ◌<◌, min, length};
 ghost use Rattle.std.proofs.Math.Option.{some};
 ghost use Rattle.lent.specs.Bytes.{be_value, part};
@@ -21,7 +23,7 @@ pub const CALL_RUN: u8 = 0;
 pub const CALL_READ_NAME: u8 = 1;
 
 // How the last steps given ended, where any were.
-#[derive(Drop)]
+#[derive(Clone, Copy)]
 pub struct Last {
     pub given: bool,
     pub answer: u8,

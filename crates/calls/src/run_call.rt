@@ -30,7 +30,7 @@ fn run_used(program: &[u8], state: &mut [u8], n: usize, steps: u64, first: Progr
 // 10; at most so many steps, and the report.
 fn run_on(program: &[u8], state: &mut [u8], steps: u64, report: &mut [u8]) -> u64
     requires { (40960 ≤ length program.now) × (65536 ≤ length state.old) × (48 ≤ length report.old) × (is_some (decode_program program.now) ≡ true) }
-    ensures* { λ r. ⌜ run_on program.now state.old steps report.old ≡ record { result = r; state = state.new; report = report.new } ⌝ }
+    ensures { run_on program.now state.old steps report.old ≡ record { result = result; state = state.new; report = report.new } }
 {
     let n = program::count_of(program);
     if !state::state_ok(state, n as u64) {
@@ -52,7 +52,7 @@ fn run_on(program: &[u8], state: &mut [u8], steps: u64, report: &mut [u8]) -> u6
 
 // 9, 8, 10; at most so many steps.
 pub fn run(program: &[u8], state: &mut [u8], steps: u64, report: &mut [u8]) -> u64
-    ensures* { λ r. ⌜ run_call program.now state.old steps report.old ≡ record { result = r; state = state.new; report = report.new } ⌝ }
+    ensures { run_call program.now state.old steps report.old ≡ record { result = result; state = state.new; report = report.new } }
 {
     if program.len() < tables::PROGRAM_SIZE {
         return lent::BUFFER_TOO_SHORT;

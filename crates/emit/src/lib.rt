@@ -1,4 +1,6 @@
 // Emitting: what an event of the lowering changes, in the state and in the program buffer (`nextreg`, `push_op` of compiler.rs).
+#![tactic(auto)]
+
 ghost use Rattle.std.specs.Prelude.{◌≡◌, Bool, true, cond, List, [], ◌∷◌, ℕ, ◌+◌, ◌*◌, ◌-◌, ◌^◌, ◌≤◌, ◌<◌, eqb, length, drop, get_or};
 ghost use Rattle.sifv.specs.Value.{Bl, One};
 ghost use Rattle.lent.specs.Bytes.{be_value, part, splice};
@@ -23,7 +25,7 @@ const INSTRUCTIONS: u32 = opc::INSTRUCTIONS as u32;
 // What events change: the next register, the instructions pushed, the records and the items written, the refusal;
 // and whether this is the pass for the declarations. 16 bytes with none between the fields: each call copies it, and every
 // level of the tree holds some on the stack.
-#[derive(Drop)]
+#[derive(Clone, Copy)]
 pub struct Low {
     pub reg: u8,
     pub decls: bool,
@@ -34,7 +36,7 @@ pub struct Low {
 }
 
 // The bytes of the entries and of the bodies that are read, the label and the state behind them.
-#[derive(Drop)]
+#[derive(Clone, Copy)]
 pub struct Done {
     pub cont: usize,
     pub body: usize,

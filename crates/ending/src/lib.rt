@@ -1,4 +1,6 @@
 // The end of a run and the names that it left, as text in a lent buffer. What does not fit is cut.
+#![tactic(auto)]
+
 ghost use Rattle.std.specs.Prelude.{◌≡◌, [], ◌∷◌, ◌++◌, ◌+◌, ◌*◌, ◌≤◌, ◌<◌, length, take};
 ghost use Rattle.std.specs.Int.Count.{ones_in};
 ghost use Rattle.lent.specs.Bytes.{be_value, part};

@@ -1,4 +1,6 @@
 // The engine as C calls it: a slice is a pointer and a length.
+#![tactic(auto)]
+
 ghost use Rattle.std.specs.Prelude.{◌≡◌};
 ghost use Rattle.lent.specs.Answered.{answered};
 ghost use Rattle.boundary.specs.LowerCall.{lower_call};
@@ -22,7 +24,7 @@ pub extern "C" fn sif_start(program: &[u8], state: &mut [u8]) -> u64
 
 #[unsafe(no_mangle)]
 pub extern "C" fn sif_run(program: &[u8], state: &mut [u8], steps: u64, report: &mut [u8]) -> u64
-    ensures* { λ r. ⌜ run_call program.now state.old steps report.old ≡ record { result = r; state = state.new; report = report.new } ⌝ }
+    ensures { run_call program.now state.old steps report.old ≡ record { result = result; state = state.new; report = report.new } }
 {
     calls::run_call::run(program, state, steps, report)
 }

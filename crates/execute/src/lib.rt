@@ -1,4 +1,6 @@
 // The operations of the machine: vm.rs, `execute` and what it calls, with the state in lent bytes.
+#![tactic(auto)]
+
 pub mod table;
 
 ghost use Rattle.std.specs.Prelude.{◌≡◌, ◌+◌, ◌*◌, ◌%◌, ◌≤◌, ◌<◌, cond, eqb, length, get_or};
@@ -28,7 +30,7 @@ use sifv::SifVal;
 
 // ---- runtime_err.rs: a stop as its number and its details
 
-#[derive(Drop)]
+#[derive(Clone, Copy)]
 pub struct RuntimeErr {
     pub number: u64,
     pub a: u64,
@@ -37,7 +39,7 @@ pub struct RuntimeErr {
 }
 
 // Position, depth of the value stack, depth of the call stack: locals of a run.
-#[derive(Drop)]
+#[derive(Clone, Copy)]
 pub struct Loc {
     pub pos: usize,
     pub depth: usize,
@@ -45,21 +47,21 @@ pub struct Loc {
 }
 
 // How far a run is: position and depths, and the steps completed since start.
-#[derive(Drop)]
+#[derive(Clone, Copy)]
 pub struct Progress {
     pub loc: Loc,
     pub count: u64,
 }
 
 // What comes of a step.
-#[derive(Drop)]
+#[derive(Clone, Copy)]
 pub enum Step {
     Goes(Loc),
     Stops(RuntimeErr),
 }
 
 // How a run ended.
-#[derive(Drop)]
+#[derive(Clone, Copy)]
 pub enum Answer {
     Done,
     Stopped(RuntimeErr),
@@ -67,14 +69,14 @@ pub enum Answer {
 }
 
 // A single value that an operation reads or computes, or its stop.
-#[derive(Drop)]
+#[derive(Clone, Copy)]
 pub enum Got {
     Ok(sifv::Stored),
     Err(RuntimeErr),
 }
 
 // What an operation on slots alone did.
-#[derive(Drop)]
+#[derive(Clone, Copy)]
 pub enum Did {
     Ok,
     Err(RuntimeErr),

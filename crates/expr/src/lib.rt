@@ -1,4 +1,6 @@
 // The lowering of expressions and right sides: `expr`, `assign` and what they call in compiler.rs; array.rs.
+#![tactic(auto)]
+
 mod array;
 mod skip;
 

@@ -6,7 +6,7 @@ ghost use Rattle.emit.specs.inner.Made.{Spells};
 ghost use Rattle.expr.specs.inner.Awaits.{body_length};
 
 // The bytes of the entries and of the bodies of a subtree.
-#[derive(Drop)]
+#[derive(Clone, Copy)]
 pub struct Extent {
     pub entries: usize,
     pub bodies: usize,

@@ -1,4 +1,6 @@
 // Bytes of lent buffers: big-endian numbers in them, copies, fills and comparisons.
+#![tactic(auto)]
+
 ghost use Rattle.std.specs.Prelude.{◌≡◌, ◌+◌, ◌*◌, ◌%◌, ◌≤◌, ◌<◌, eqb, length, get_or, replicate};
 ghost use Rattle.lent.specs.Bytes.{be_value, be_bytes, part, splice, same_bytes};
 ghost use Rattle.lent.specs.inner.Words.{le_value, four, eight};

@@ -1,4 +1,6 @@
 // The listing program (document 01): a tree file from standard input, its listing to standard output.
+#![tactic(auto)]
+
 ghost use Rattle.std.specs.Prelude.{◌≡◌, ◌≤◌, length};
 ghost use Rattle.ast.specs.Tree.{Stmts};
 ghost use Rattle.ast.specs.Plain.{plain};

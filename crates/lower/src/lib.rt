@@ -1,4 +1,6 @@
 // Lowering of a tree file to a program buffer: compiler.rs, `compile`, and the call `lower`.
+#![tactic(auto)]
+
 ghost use Rattle.std.specs.Prelude.{◌≡◌, List, ℕ, ◌≤◌, length};
 ghost use Rattle.lent.specs.Bytes.{part};
 ghost use Rattle.opc.specs.Op.{Code};

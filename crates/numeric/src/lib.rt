@@ -1,4 +1,6 @@
 // Numbers: an index from a number, the bit pattern of a number and back, and the remainder.
+#![tactic(auto)]
+
 ghost use Rattle.std.specs.Prelude.{◌≡◌, ◌*◌, ◌%◌, ◌^◌, ◌<◌, ◌≤◌};
 ghost use Rattle.std.specs.Float.Ieee as Ieee;
 ghost use Rattle.std.specs.Float.{binary64};
@@ -61,7 +63,7 @@ pub fn index_or_max(x: f64) -> u64
 }
 
 // The index from a number: a whole number from 0 up to below 2^64, or none.
-#[derive(Drop)]
+#[derive(Clone, Copy)]
 pub enum Index {
     At(u64),
     None,

@@ -1,4 +1,6 @@
 // A program as text: the listing from its start line to its fn lines. What does not fit is cut.
+#![tactic(auto)]
+
 ghost use Rattle.std.specs.Prelude.{◌≡◌, [], ◌∷◌, map, ℕ, ◌+◌, ◌*◌, ◌≤◌, ◌<◌, length};
 ghost use Rattle.std.proofs.Math.Option.{some};
 ghost use Rattle.lent.specs.Bytes.{concat};

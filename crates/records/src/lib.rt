@@ -1,4 +1,6 @@
 // The records and the pool of a program, looked at one by one: what the program check (8) tests of them.
+#![tactic(auto)]
+
 ghost use Rattle.std.specs.Prelude.{◌≡◌, ◌+◌, ◌/◌, ◌%◌, ◌<◌, ◌≤◌, true, not, ◌&&◌, ◌||◌, [], ◌∷◌, length, if◌then◌else◌, ◌==◌, bit_and};
 ghost use Rattle.opc.specs.inner.Fetch.{record_at};
 ghost use Rattle.records.specs.inner.Fits.{all_from, limits_of, is_literal, record_ok, is_array, entry_ok, span_fits, entries_fit, pooled, taken, pool_fits};
@@ -21,7 +23,7 @@ fn eight_at(program: &[u8], at: usize) -> u64
 // 127 - n in `add`. The highest byte of `add` is the least kind. The other eight bytes fit where
 // no bit of `word` is set in them. One `match` with values for each operation, and no `if` on what
 // comes of it: so they are tables in read-only memory.
-#[derive(Drop)]
+#[derive(Clone, Copy)]
 struct Allowed {
     mask: u64,
     add: u64,

@@ -1,4 +1,6 @@
 // Replays the stored files and programs (cases/README.md) through the four calls, in one run and in portions, and prints counts.
+#![tactic(auto)]
+
 ghost use Rattle.std.specs.Prelude.{◌+◌, ◌*◌, ◌<◌, ◌≤◌, length};
 
 use call_list::Last;
@@ -45,7 +47,7 @@ fn mix_bytes(before: u64, s: &[u8]) -> u64 {
 
 // ---- reading the names
 
-#[derive(Drop)]
+#[derive(Clone, Copy)]
 struct Reading {
     sum: u64,
     held: u64,

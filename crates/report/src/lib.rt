@@ -1,4 +1,6 @@
 // The report of a run.
+#![tactic(auto)]
+
 ghost use Rattle.std.specs.Prelude.{◌≡◌, ◌≤◌, ◌++◌, length, drop};
 ghost use Rattle.lent.specs.Bytes.{be_bytes};
 ghost use Rattle.vm.specs.Report.{signed_bytes};

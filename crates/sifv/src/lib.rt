@@ -1,4 +1,6 @@
 // Values, and value slots in lent bytes.
+#![tactic(auto)]
+
 pub mod table;
 
 ghost use Rattle.std.specs.Prelude.{◌≡◌, ◌+◌, ◌%◌, ◌^◌, ◌≤◌, ◌<◌, min, cond, ◌&&◌, ◌++◌, leb, ltb, length, get_or};
@@ -54,7 +56,7 @@ const TABLE_ITEMS: u64 = lent::TABLE_ITEMS as u64;
 
 // A value as the program holds it; the contents of an array and a table stay in their slot.
 // Empty: an empty register, or a name that is not set.
-#[derive(Drop)]
+#[derive(Clone, Copy)]
 pub enum SifVal {
     Empty,
     Num(f64),
@@ -437,7 +439,7 @@ fn kind_byte(v: SifVal) -> u8
 }
 
 // A value without contents as it is stored: its kind and its number.
-#[derive(Drop)]
+#[derive(Clone, Copy)]
 pub struct Stored {
     pub kind: u8,
     pub word: u64,

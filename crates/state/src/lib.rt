@@ -1,4 +1,6 @@
 // The state between calls: its check (10), its start, and what a run writes back.
+#![tactic(auto)]
+
 ghost use Rattle.std.specs.Prelude.{◌≡◌, ◌++◌, ◌≤◌, length, drop};
 ghost use Rattle.std.proofs.Math.Option.{some};
 ghost use Rattle.tables.specs.ProgramBytes.{decode_program};

@@ -1,4 +1,6 @@
 // The lowering of statements: `block` and what it calls in compiler.rs; stmt.rs.
+#![tactic(auto)]
+
 mod fns;
 mod fors;
 mod jumps;

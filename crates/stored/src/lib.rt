@@ -1,4 +1,5 @@
 // Definitions: specs/. The state's layout as constants of the code.
+#![tactic(auto)]
 
 // The state: specs/StateBytes.antt. The registers are at byte 0.
 pub const STATE_SIZE: usize = 65536;

@@ -1,4 +1,6 @@
 // Text in a lent buffer: bytes, words, numbers. What does not fit is cut.
+#![tactic(auto)]
+
 ghost use Rattle.std.specs.Prelude.{◌≡◌, [], ◌∷◌, ◌++◌, ◌-◌, ◌^◌, ◌≤◌, ◌<◌, length};
 ghost use Rattle.sifv.specs.Value.{Num, Str, Bl, Null};
 ghost use Rattle.sifv.specs.inner.Seen.{single_seen};

@@ -1,4 +1,6 @@
 // Values in slots as text, in a lent buffer. What does not fit is cut.
+#![tactic(auto)]
+
 ghost use Rattle.std.specs.Prelude.{◌++◌, map, ◌+◌, ◌≤◌, ◌<◌, length, get_or};
 ghost use Rattle.lent.specs.Bytes.{part};
 ghost use Rattle.sifv.specs.Value.{entry};

@@ -1,4 +1,5 @@
 // Definitions: specs/. The report's layout and the stops as constants of the code.
+#![tactic(auto)]
 
 // The report of a run: specs/Report.antt. The answer is at byte 0.
 pub const REPORT_SIZE: usize = 48;

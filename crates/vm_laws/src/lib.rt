@@ -1,1 +1,2 @@
 // Laws only: specs/laws/.
+#![tactic(auto)]
