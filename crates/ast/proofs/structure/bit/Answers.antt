@@ -1,0 +1,6 @@
+use lib.Pow.{pow-lt}
+use native.Mathlib.Nat.{one-mul, mod-eq_of_lt}
+use Rattle.ast.proofs.structure.bit.Goals as goal
+
+pub returns : goal.returns
+returns c = rw one-mul (mod-eq_of_lt (pow-lt c.requires))

@@ -1,0 +1,4 @@
+use Rattle.ast.proofs.structure.if_plan.Goals as goal
+
+pub returns : goal.returns
+returns c = rw c.minus-rest.ensures

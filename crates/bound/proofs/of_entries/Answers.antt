@@ -1,0 +1,5 @@
+use Rattle.bound.proofs.Steps.{all_counted}
+use Rattle.bound.proofs.of_entries.Goals as goal
+
+pub returns : goal.returns
+returns c = all_counted c.args.entries.now c.longest.ensures.0 c.larger-l.ensures c.subtree-p.ensures

@@ -1,0 +1,11 @@
+use mathlib.Core.Path.{refl}
+use Rattle.emit.specs.laws.Leaves.{ready_start, stored, bl_stored}
+use Rattle.emit.proofs.put_bl.Goals as goal
+
+pub push_at-requires : goal.push_at-requires
+push_at-requires c =
+    ready_start c.start.ensures c.requires
+
+pub returns : goal.returns
+returns c b v w e =
+    stored w _ _ c.start.ensures c.push_at.ensures refl (bl_stored b v c.word_of-word.ensures.0 c.fields_of.ensures) e

@@ -1,0 +1,301 @@
+-- `execute::execute` meets its contract.
+use mathlib.Core.Path.{◌≡◌, sym, ap, ◌∙◌}
+use mathlib.Core.Bool.{true}
+use mathlib.Core.List.{List}
+use Prim.Native.Nat.{ℕ, ◌≤◌}
+use native.Mathlib.Omega.{arith}
+use lib.ListN.{length}
+use Rattle.sifv.specs.Slot.{value_ok}
+use Rattle.opc.specs.Op as model
+use Rattle.opc.specs.declared.Op.{Op}
+use Rattle.tables.specs.Tables.{label_at}
+use Rattle.vm.specs.Operation.{Ok, read}
+use Rattle.vm.specs.Machine as Machine
+use Rattle.execute.specs.inner.View.{names_of, view, Holds, Neat, Stepped}
+use Rattle.execute.specs.laws.Laying.{length_stack, length_frames, canon_neat}
+use Rattle.execute.specs.laws.Acts.{reg_formed, reg_value, name_formed, name_value, loads_law, loadv_law, wrote_law, stores_law}
+use Rattle.execute.specs.laws.Stacks.{stored_as}
+use Rattle.execute.specs.laws.Tabled.{looked_law}
+use Rattle.execute.specs.inner.Means.{Means, op_at}
+use Rattle.execute.specs.laws.Programs.{means_at, step_at, jump_law, on_law}
+use Rattle.execute.specs.declared.Step.{Step}
+use Rattle.execute.specs.declared.Step.TheVariants as step
+use borrow.Author.Rules.{rules}
+use Rattle.tables.specs.ProgramBytes.{program_in}
+use Rattle.execute.specs.inner.ProgramView.{ProgramReady}
+use Rattle.execute.proofs.execute.Goals as goal
+use Rattle.execute.proofs.execute.Goals.{After-fetch-op, Start}
+
+neat : (s : Start) → Neat s.args.state.now
+neat s = canon_neat _ _ _ s.requires.1
+
+near : (s : Start) → s.args.loc.pos ≤ 1024
+near s = omega (arith, s.requires.2, s.requires.0.few)
+
+holds : (s : Start) → Holds s.args.state.now (view s.args.state.now s.args.loc)
+holds s = s.requires.1.holds
+
+room : (s : Start) → 32768 ≤ length s.args.program.now
+room s = omega (arith, s.requires.0.room)
+
+ready : (s : Start) → ProgramReady s.args.program.now (program_in s.args.program.now)
+ready s = s.requires.0
+
+stack_max : (s : Start) → s.args.loc.depth ≤ 24
+stack_max s = omega (arith, s.requires.1.sound.stack_max, length_stack s.args.state.now s.args.loc.depth)
+
+calls_max : (s : Start) → s.args.loc.calls ≤ 24
+calls_max s = omega (arith, s.requires.1.sound.calls_max, length_frames s.args.state.now s.args.loc.calls)
+
+names_ok : (s : Start) (x : ℕ) → value_ok (names_of s.args.state.now x) ≡ true
+names_ok s x = (s.requires.1.sound.names_ok.held x).0
+
+-- what the instruction at the position means, once it is fetched and told
+meant : (f : After-fetch-op) {u : Op} → f.fetch-op.result ≡ u → Means f.args.program.now u (op_at (program_in f.args.program.now) f.args.loc.pos)
+meant f e =
+    means_at _ _ f.requires.0 _ f.requires.2 (sym e ∙ f.fetch-op.ensures)
+
+-- the step is the operation that the instruction means
+carried : (s : Start) {o : model.Op} {b' : List ℕ} {r : Step} → op_at (program_in s.args.program.now) s.args.loc.pos ≡ o → Stepped s.args.state.now b' (Machine.execute (program_in s.args.program.now) (view s.args.state.now s.args.loc) o) r
+    → Stepped s.args.state.now b' (Machine.step (program_in s.args.program.now) (view s.args.state.now s.args.loc)) r
+carried s e h = step_at _ _ s.args.loc _ s.requires.2 e h
+
+pub binop-got-requires : goal.binop-got-requires
+binop-got-requires c = let m = meant c c.op-1.given.1 in (neat c, m.1, m.2)
+
+pub loads-requires : goal.loads-requires
+loads-requires c =
+    let m = meant c c.op-1.given.1 in
+    (neat c, near c, m.3)
+
+pub unop-got-requires : goal.unop-got-requires
+unop-got-requires c = let m = meant c c.op-in-Unary-1.given.1 in (neat c, m.1)
+
+pub loads-requires-in-Unary : goal.loads-requires-in-Unary
+loads-requires-in-Unary c =
+    let m = meant c c.op-in-Unary-1.given.1 in
+    (neat c, near c, m.2)
+
+pub loadc-did-requires : goal.loadc-did-requires
+loadc-did-requires c = let m = meant c c.op-in-Ldc-1.given.1 in (room c, neat c, m.1, m.2, m.3)
+
+pub loadn-did-requires : goal.loadn-did-requires
+loadn-did-requires c = let m = meant c c.op-in-Ldn-1.given.1 in (neat c, m.1, m.2)
+
+pub mv-did-requires : goal.mv-did-requires
+mv-did-requires c = let m = meant c c.op-in-Mv-1.given.1 in (neat c, m.1, m.2)
+
+pub loadarrs-got-requires : goal.loadarrs-got-requires
+loadarrs-got-requires c = let m = meant c c.op-in-Ldas-1.given.1 in (neat c, m.1)
+
+pub loads-requires-in-Ldas : goal.loads-requires-in-Ldas
+loads-requires-in-Ldas c =
+    let m = meant c c.op-in-Ldas-1.given.1 in
+    (neat c, near c, m.2)
+
+pub loadarrv-got-requires : goal.loadarrv-got-requires
+loadarrv-got-requires c = let m = meant c c.op-in-Ldav-1.given.1 in (neat c, m.1, m.2)
+
+pub loads-requires-in-Ldav : goal.loads-requires-in-Ldav
+loads-requires-in-Ldav c =
+    let m = meant c c.op-in-Ldav-1.given.1 in
+    (neat c, near c, m.3)
+
+pub newarrv-did-requires : goal.newarrv-did-requires
+newarrv-did-requires c = let m = meant c c.op-in-Upda-1.given.1 in (neat c, m.1, m.2, m.3)
+
+pub storec-did-requires : goal.storec-did-requires
+storec-did-requires c = let m = meant c c.op-in-Stc-1.given.1 in (room c, neat c, m.1, m.2, m.3)
+
+pub slot-requires : goal.slot-requires
+slot-requires c = let m = meant c c.op-in-Stn-1.given.1 in m.1
+
+pub store-did-requires : goal.store-did-requires
+store-did-requires c =
+    let m = meant c c.op-in-Stn-1.given.1 in
+    let f = name_formed _ (neat c) _ m.1 c.slot.ensures in
+    (neat c, m.2, f.0, f.1, omega (arith, c.slot.ensures))
+
+pub reg-requires : goal.reg-requires
+reg-requires c = let m = meant c c.op-in-Str-1.given.1 in m.1
+
+pub store-did-requires-in-Str : goal.store-did-requires-in-Str
+store-did-requires-in-Str c =
+    let m = meant c c.op-in-Str-1.given.1 in
+    let f = reg_formed _ (neat c) _ m.1 c.reg.ensures in
+    (neat c, m.2, f.0, f.1, omega (arith, c.reg.ensures))
+
+pub branch-program-requires : goal.branch-program-requires
+branch-program-requires c =
+    let m = meant c c.op-in-JmpCnd-1.given.1 in
+    (ready c, neat c, holds c, near c, m.1, m.2)
+
+pub jump-requires : goal.jump-requires
+jump-requires c = let m = meant c c.op-in-Jmpa-1.given.1 in (ready c, m.1)
+
+pub incrr-got-requires : goal.incrr-got-requires
+incrr-got-requires c = let m = meant c c.op-in-Incrr-1.given.1 in (neat c, m.1)
+
+pub loads-requires-in-Incrr : goal.loads-requires-in-Incrr
+loads-requires-in-Incrr c =
+    let m = meant c c.op-in-Incrr-1.given.1 in
+    (neat c, near c, m.1)
+
+pub decrr-got-requires : goal.decrr-got-requires
+decrr-got-requires c = let m = meant c c.op-in-Decrr-1.given.1 in (neat c, m.1)
+
+pub loads-requires-in-Decrr : goal.loads-requires-in-Decrr
+loads-requires-in-Decrr c =
+    let m = meant c c.op-in-Decrr-1.given.1 in
+    (neat c, near c, m.1)
+
+pub declare-requires : goal.declare-requires
+declare-requires c = let m = meant c c.op-in-Fn-1.given.1 in (holds c, near c, m.1)
+
+pub call-requires : goal.call-requires
+call-requires c = let m = meant c c.op-in-Call-1.given.1 in (holds c, calls_max c, near c, m.1)
+
+pub enum_told-1 : goal.enum_told-1
+enum_told-1 c = search rules
+
+pub ret-requires : goal.ret-requires
+ret-requires c = (holds c, calls_max c)
+
+pub push-requires : goal.push-requires
+push-requires c =
+    let m = meant c c.op-in-FnStackPush-1.given.1 in
+    (neat c, holds c, stack_max c, near c, m.1)
+
+pub pop-requires : goal.pop-requires
+pop-requires c =
+    let m = meant c c.op-in-FnStackPop-1.given.1 in
+    (neat c, holds c, stack_max c, near c, m.1)
+
+pub tbli-did-requires : goal.tbli-did-requires
+tbli-did-requires c = let m = meant c c.op-in-Tbli-1.given.1 in (neat c, m.1, m.2, m.3, names_ok c c.op-in-Tbli-1.given.0.0)
+
+pub tblg-did-requires : goal.tblg-did-requires
+tblg-did-requires c = let m = meant c c.op-in-Tblg-1.given.1 in (neat c, m.1, m.3, names_ok c c.op-in-Tblg-1.given.0.0)
+
+pub returns-in-Binary : goal.returns-in-Binary
+returns-in-Binary c =
+    let m = meant c c.op-1.given.1 in
+    carried c m.0 (loads_law _ c.args.loc (holds c) _ m.3 c.binop-got.ensures c.loads.ensures)
+
+pub returns-in-Unary : goal.returns-in-Unary
+returns-in-Unary c =
+    let m = meant c c.op-in-Unary-1.given.1 in
+    carried c m.0 (loads_law _ c.args.loc (holds c) _ m.2 c.unop-got.ensures c.loads-in-Unary.ensures)
+
+pub returns-in-Ldc : goal.returns-in-Ldc
+returns-in-Ldc c =
+    let m = meant c c.op-in-Ldc-1.given.1 in
+    carried c m.0 (loadv_law _ c.args.loc (holds c) _ (Ok _) m.1 c.loadc-did.ensures c.stepped.ensures)
+
+pub returns-in-Ldn : goal.returns-in-Ldn
+returns-in-Ldn c =
+    let m = meant c c.op-in-Ldn-1.given.1 in
+    carried c m.0 (loadv_law _ c.args.loc (holds c) _ (read (names_of c.args.state.now) c.op-in-Ldn-1.given.0.1.0) m.1 c.loadn-did.ensures c.stepped-in-Ldn.ensures)
+
+pub returns-in-Mv : goal.returns-in-Mv
+returns-in-Mv c =
+    let m = meant c c.op-in-Mv-1.given.1 in
+    carried c m.0 (wrote_law _ c.args.loc (holds c) _ _ m.2 c.mv-did.ensures c.stepped-in-Mv.ensures)
+
+pub returns-in-Ldas : goal.returns-in-Ldas
+returns-in-Ldas c =
+    let m = meant c c.op-in-Ldas-1.given.1 in
+    carried c m.0 (loads_law _ c.args.loc (holds c) _ m.2 c.loadarrs-got.ensures c.loads-in-Ldas.ensures)
+
+pub returns-in-Ldav : goal.returns-in-Ldav
+returns-in-Ldav c =
+    let m = meant c c.op-in-Ldav-1.given.1 in
+    carried c m.0 (loads_law _ c.args.loc (holds c) _ m.3 c.loadarrv-got.ensures c.loads-in-Ldav.ensures)
+
+pub returns-in-Upda : goal.returns-in-Upda
+returns-in-Upda c =
+    let m = meant c c.op-in-Upda-1.given.1 in
+    carried c m.0 (stores_law _ c.args.loc (holds c) c.newarrv-did.ensures c.stepped-in-Upda.ensures)
+
+pub returns-in-Stc : goal.returns-in-Stc
+returns-in-Stc c =
+    let m = meant c c.op-in-Stc-1.given.1 in
+    carried c m.0 (stores_law _ c.args.loc (holds c) c.storec-did.ensures c.stepped-in-Stc.ensures)
+
+pub returns-in-Stn : goal.returns-in-Stn
+returns-in-Stn c =
+    let m = meant c c.op-in-Stn-1.given.1 in
+    carried c m.0 (stores_law _ c.args.loc (holds c) (stored_as _ _ (name_value _ (neat c) _ m.1 c.slot.ensures) c.store-did.ensures) c.stepped-in-Stn.ensures)
+
+pub returns-in-Str : goal.returns-in-Str
+returns-in-Str c =
+    let m = meant c c.op-in-Str-1.given.1 in
+    carried c m.0 (stores_law _ c.args.loc (holds c) (stored_as _ _ (reg_value _ (neat c) _ m.1 c.reg.ensures) c.store-did-in-Str.ensures) c.stepped-in-Str.ensures)
+
+pub returns-in-JmpCnd : goal.returns-in-JmpCnd
+returns-in-JmpCnd c =
+    let m = meant c c.op-in-JmpCnd-1.given.1 in
+    carried c m.0 c.branch-program.ensures
+
+pub returns-in-Jmpa : goal.returns-in-Jmpa
+returns-in-Jmpa c =
+    let m = meant c c.op-in-Jmpa-1.given.1 in
+    carried c m.0 (jump_law _ c.args.loc (holds c) (label_at (program_in c.args.program.now).code c.op-in-Jmpa-1.given.0.0) c.jump.ensures)
+
+pub returns-in-Incrr : goal.returns-in-Incrr
+returns-in-Incrr c =
+    let m = meant c c.op-in-Incrr-1.given.1 in
+    carried c m.0 (loads_law _ c.args.loc (holds c) _ m.1 c.incrr-got.ensures c.loads-in-Incrr.ensures)
+
+pub returns-in-Decrr : goal.returns-in-Decrr
+returns-in-Decrr c =
+    let m = meant c c.op-in-Decrr-1.given.1 in
+    carried c m.0 (loads_law _ c.args.loc (holds c) _ m.1 c.decrr-got.ensures c.loads-in-Decrr.ensures)
+
+pub returns-in-Fn : goal.returns-in-Fn
+returns-in-Fn c =
+    let m = meant c c.op-in-Fn-1.given.1 in
+    carried c m.0 c.declare.ensures
+
+pub returns-in-Call : goal.returns-in-Call
+returns-in-Call c =
+    let m = meant c c.op-in-Call-1.given.1 in
+    carried c m.0 c.call.ensures
+
+pub returns-in-FnRet : goal.returns-in-FnRet
+returns-in-FnRet c =
+    let m = meant c c.enum_told-1.given.1 in
+    carried c m c.ret.ensures
+
+pub returns-in-FnStackPush : goal.returns-in-FnStackPush
+returns-in-FnStackPush c =
+    let m = meant c c.op-in-FnStackPush-1.given.1 in
+    carried c m.0 c.push.ensures
+
+pub returns-in-FnStackPop : goal.returns-in-FnStackPop
+returns-in-FnStackPop c =
+    let m = meant c c.op-in-FnStackPop-1.given.1 in
+    carried c m.0 c.pop.ensures
+
+pub returns-in-Tbli : goal.returns-in-Tbli
+returns-in-Tbli c =
+    let m = meant c c.op-in-Tbli-1.given.1 in
+    carried c m.0 (stores_law _ c.args.loc (holds c) c.tbli-did.ensures c.stepped-in-Tbli.ensures)
+
+pub returns-in-Tblg : goal.returns-in-Tblg
+returns-in-Tblg c =
+    let m = meant c c.op-in-Tblg-1.given.1 in
+    carried c m.0 (looked_law _ c.args.loc (holds c) _ _ m.3 c.tblg-did.ensures c.stepped-in-Tblg.ensures)
+
+pub returns-in-Nop : goal.returns-in-Nop
+returns-in-Nop c =
+    let m = meant c c.enum_told-in-Nop-1.given.1 in
+    carried c m (on_law _ c.args.loc (holds c) (ap step.Goes c.on.ensures))
+
+pub returns-in-Stop : goal.returns-in-Stop
+returns-in-Stop c =
+    let m = meant c c.enum_told-in-Stop-1.given.1 in
+    carried c m (on_law _ c.args.loc (holds c) (ap step.Goes c.on-in-Stop.ensures))
+
+pub returns-in-Bad : goal.returns-in-Bad
+returns-in-Bad c = absurd (meant c c.enum_told-in-Bad-1.given.1)

@@ -1,0 +1,22 @@
+-- `execute::loads` meets its contract.
+use mathlib.Core.Path.{refl, ap, ◌∙◌}
+use Prim.Native.Nat.{ℕ}
+use mathlib.Core.List.{◌++◌}
+use Rattle.lent.specs.Bytes.{splice}
+use Rattle.sifv.specs.inner.Seen.{head_bytes}
+use Rattle.execute.specs.inner.View.{fine, fail}
+use Rattle.execute.specs.laws.Acts.{reg_formed}
+use Rattle.execute.specs.declared.Step.TheVariants as step
+use Rattle.lent.specs.Lists.{zeros}
+use Rattle.execute.proofs.loads.Goals as goal
+
+pub put-requires : goal.put-requires
+put-requires c =
+    reg_formed _ c.requires.0 _ c.requires.2 c.reg.ensures
+
+pub returns-in-Ok : goal.returns-in-Ok
+returns-in-Ok c =
+    fine c.got-1.given.1 (ap step.Goes c.on.ensures) (c.put.ensures ∙ ap (λ (i : ℕ). splice c.args.state.now i (head_bytes c.got-1.given.0.0.kind 0 c.got-1.given.0.0.word ++ zeros 240)) c.reg.ensures)
+
+pub returns-in-Err : goal.returns-in-Err
+returns-in-Err c = fail c.got-in-Err-1.given.1 refl refl

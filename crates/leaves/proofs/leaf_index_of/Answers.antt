@@ -1,0 +1,12 @@
+-- `leaves::leaf_index_of` meets its contract.
+use mathlib.Core.Path.{sym, ap}
+use Rattle.numeric.specs.Index.{index_of}
+use Rattle.numeric.specs.laws.IndexLaws.{told_at, told_none}
+use Rattle.numeric.specs.inner.OrMax.{or_max}
+use Rattle.leaves.proofs.leaf_index_of.Goals as goal
+
+pub returns-in-At : goal.returns-in-At
+returns-in-At c = sym (ap or_max (told_at (index_of c.args.x) c.index_of.ensures c.n-1.given.1))
+
+pub returns-in-None : goal.returns-in-None
+returns-in-None c = sym (ap or_max (told_none (index_of c.args.x) c.index_of.ensures c.enum_told-1.given.1))

@@ -1,0 +1,27 @@
+use mathlib.Core.Path.{refl, sym, ◌∙◌}
+use Prim.Native.Nat.{◌-◌}
+use native.Mathlib.Omega.{arith}
+use lib.ListN.{length, length-set}
+use Rattle.lent.proofs.Loops.{write_start, write_turn, write_end}
+use Rattle.lent.proofs.copy.Goals as goal
+
+pub loop-i-init : goal.loop-i-init
+loop-i-init c = (omega arith, refl, write_start c.args.d.now c.args.at c.args.s.now)
+
+pub loop-i-preserved : goal.loop-i-preserved
+loop-i-preserved c =
+    let l = c.loop-i in
+    let a = c.args in (
+      omega arith,
+      simp length-set l.invariant.1,
+      write_turn l.d a.at l.i a.s.now _ (omega arith) (omega arith) refl ∙ l.invariant.2,
+    )
+
+pub shape_of-d : goal.shape_of-d
+shape_of-d c = c.loop-i.invariant.1
+
+pub returns : goal.returns
+returns c =
+    let l = c.loop-i in
+    let a = c.args in
+    sym (write_end l.d a.at l.i a.s.now c.loop-i-test.false) ∙ l.invariant.2

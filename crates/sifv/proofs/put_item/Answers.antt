@@ -1,0 +1,17 @@
+use Rattle.sifv.specs.inner.Seen.{single_seen}
+use mathlib.Core.Path.{refl, ◌∙◌}
+use native.Mathlib.Omega.{arith}
+use lib.ListN.{length-set}
+use Rattle.sifv.specs.laws.Items.{put_item_law}
+use Rattle.sifv.specs.laws.Laws.{word_plain}
+use Rattle.sifv.proofs.put_item.Goals as goal
+
+pub put_u64-requires : goal.put_u64-requires
+put_u64-requires c = simp length-set (omega arith)
+
+pub shape_of-s : goal.shape_of-s
+shape_of-s c = c.put_u64.auto.0 ∙ simp length-set
+
+pub returns : goal.returns
+returns c =
+    (put_item_law c.args.s.now c.args.at c.args.i (single_seen c.args.v) c.requires.0 c.requires.1 c.item_kind.ensures (c.word_of.ensures.0 ∙ word_plain c.args.v) refl c.put_u64.ensures, c.word_of.ensures.1)

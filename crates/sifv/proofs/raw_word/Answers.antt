@@ -1,0 +1,13 @@
+use mathlib.Core.Path.{ap, refl}
+use Rattle.sifv.specs.Value.{Num, Bl}
+use Rattle.sifv.specs.laws.Laws.{flag_back}
+use Rattle.sifv.proofs.raw_word.Goals as goal
+
+pub returns-in-Num : goal.returns-in-Num
+returns-in-Num c = rw c.v-1.given.1 (c.bits_of.ensures.0, ap Num c.bits_of.ensures.1)
+
+pub returns-in-Str : goal.returns-in-Str
+returns-in-Str c = rw c.v-in-Str-1.given.1 (refl, refl)
+
+pub returns-in-Bl : goal.returns-in-Bl
+returns-in-Bl c = rw c.v-in-Bl-1.given.1 (c.flag.ensures, ap Bl (flag_back _ c.flag.ensures))

@@ -1,0 +1,16 @@
+use native.Mathlib.Omega.{arith}
+use mathlib.Core.Path.{refl}
+use Rattle.stmt.specs.laws.Whole.{tree_room, tree_reads, tree_did}
+use Rattle.stmt.proofs.lower_tree.Goals as goal
+
+pub bounds-entries-1 : goal.bounds-entries-1
+bounds-entries-1 c =
+    omega (arith, tree_room c.args.entries.now c.args.bodies.now c.requires.1.0 c.requires.1.2 c.requires.1.3 c.requires.1.4 c.requires.1.5)
+
+pub blocks-d-requires : goal.blocks-d-requires
+blocks-d-requires c =
+    tree_reads c.args.entries.now c.args.bodies.now c.requires.1.0 c.requires.1.2 c.requires.1.3 c.requires.1.4 c.requires.1.5 c.start-p.ensures c.requires.0
+
+pub returns : goal.returns
+returns c =
+    λ t i few ec eb fit z. tree_did c.args.entries.now c.args.bodies.now t few ec eb fit c.start-p.ensures refl z c.blocks-d.ensures

@@ -1,0 +1,30 @@
+use mathlib.Core.Path.{ap, ◌∙◌}
+use mathlib.Core.List.{List}
+use Prim.Native.Nat.{ℕ}
+use native.Mathlib.Omega.{arith}
+use Rattle.lent.specs.Bytes.{splice}
+use Rattle.tables.specs.ProgramBytes.{function_bytes}
+use Rattle.tables.specs.laws.EntryLaws.{functions_begun, labels_length, labels_records, labels_behind}
+use Rattle.tables.proofs.compute.Goals as goal
+
+pub functions-requires : goal.functions-requires
+functions-requires c =
+    let h = c.requires in
+    let cs = h.1.0 in
+    let b = c.args.program.now in
+    let e = c.label_table.ensures cs h.1.1 in (
+      (omega (arith, labels_length cs c.args.n b _ h.0.0 e, h.0.0), h.0.1),
+      (
+        cs,
+        functions_begun cs c.args.n _ (labels_records cs c.args.n b _ h.0.0 e h.0.1 h.1.1) (labels_behind cs c.args.n b _ h.0.0 e ∙ h.0.3),
+      ),
+    )
+
+pub returns : goal.returns
+returns c cs r =
+    let h = c.requires in
+    let b = c.args.program.now in
+    let e = c.label_table.ensures cs r in
+    c.functions.ensures cs
+    (functions_begun cs c.args.n _ (labels_records cs c.args.n b _ h.0.0 e h.0.1 r) (labels_behind cs c.args.n b _ h.0.0 e ∙ h.0.3))
+    ∙ ap (λ (d : List ℕ). splice d 34816 (function_bytes cs)) e

@@ -1,0 +1,25 @@
+use native.Mathlib.Omega.{arith}
+use Rattle.tables.specs.laws.EntryLaws.{first, first_length, labels_begun, labels_whole, labels_none}
+use Rattle.tables.proofs.label_table.Goals as goal
+
+pub labels-requires : goal.labels-requires
+labels-requires c =
+    let e = c.put_u16.ensures in
+    let b = c.args.program.now in
+    let h = c.requires in (
+      (omega (arith, first_length b _ h.0.0 e, h.0.0), h.0.1),
+      (h.1.0, first, labels_begun b _ h.0.0 e h.1.0 c.args.n h.0.1 h.0.2 h.1.1),
+    )
+
+pub returns-then-n-gt0 : goal.returns-then-n-gt0
+returns-then-n-gt0 c cs r =
+    let e = c.put_u16.ensures in
+    let b = c.args.program.now in
+    let h = c.requires in
+    labels_whole b _ h.0.0 e cs c.args.n c.get_u16-first.result _ c.if-n-gt0.true r c.get_u16-first.ensures.0
+    (c.labels.ensures cs first (labels_begun b _ h.0.0 e cs c.args.n h.0.1 h.0.2 r))
+
+pub returns : goal.returns
+returns c cs r =
+    let s = c in
+    labels_none cs s.args.n s.args.program.now (omega (arith, c.if-n-gt0.false)) s.requires.0.0 s.requires.0.2 r

@@ -1,7 +1,0 @@
-use borrow.Author.Rules.{rules}
-use Rattle.text.specs.laws.PutLaws.{put_then}
-use Rattle.text.proofs.put_field.Statement.{statement}
-use Rattle.text.proofs.put_field.Tie as tie
-
-pub put_field_spec : {M : Type 1} → statement M
-put_field_spec = tie.close (tie.spec (λ c κs. search rules) (λ c κs. search rules) (λ c. search rules) (λ c. search put_then))

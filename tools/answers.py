@@ -1,0 +1,407 @@
+#!/usr/bin/env python3
+"""Turns proofs that name the goals one by one (Proof.antt, tie.spec) into Invariants.antt and Answers.antt.
+
+usage: tools/answers.py NAMES CRATE..     at the top of the repository; NAMES is the folder that `rt names NAMES` wrote
+
+A goal that was left to a search, or to omega with nothing beside it, gets no answer: the check finds it.
+"""
+import json
+import os
+import re
+import sys
+
+SKIP = re.compile(r"^\(λ c( κs)?\. (search (rules|needs)|omega arith)\)$")
+CHAIN = re.compile(r"(?<![\w.'-])([A-Za-z_][\w']*)((?:\.[A-Za-z0-9_][\w'-]*)+)")
+TOKEN = re.compile(r"[^\s(){}.;,:@\"«»\[\]`]+")
+ROOT = {"args", "requires", "pre", "ranges", "lifetimes", "well_formed", "well-formed"}
+
+
+def flat(s):
+    return s.replace("-", "_")
+
+
+def blocks(text):
+    """The top-level pieces of a file: (names, lines)."""
+    out, cur = [], []
+    for line in text.split("\n"):
+        if line and not line[0].isspace() and not line.startswith(")"):
+            cur = [line]
+            out.append(cur)
+        elif cur or line.strip():
+            cur.append(line)
+    return out
+
+
+def args_of(text):
+    """The arguments of a call, cut at blanks outside brackets."""
+    out, depth, cur = [], 0, ""
+    for ch in text:
+        if ch in "([{":
+            depth += 1
+        if ch in ")]}":
+            depth -= 1
+            if depth < 0:
+                break
+        if ch.isspace() and depth == 0:
+            if cur:
+                out.append(cur)
+            cur = ""
+        else:
+            cur += ch
+    if cur:
+        out.append(cur)
+    return out
+
+
+MUTS = {}
+
+
+def read_muts():
+    """The parameters by &mut of each function, by its path."""
+    for folder, dirs, fs in os.walk("crates"):
+        dirs[:] = [d for d in dirs if d not in ("out", "specs", "proofs")]
+        for f in fs:
+            if f.endswith(".rt"):
+                p = os.path.join(folder, f)
+                parts = p.split(os.sep)
+                mod = [parts[1]] + parts[3:-1] + ([] if f in ("lib.rt", "main.rt") else [f[:-3]])
+                for m in re.finditer(r"\bfn (\w+)\s*(?:<[^>]*>)?\(([^)]*)\)", open(p, encoding="utf-8").read()):
+                    MUTS["::".join(mod + [m[1]])] = re.findall(r"(\w+): &mut", m[2])
+
+
+class Names:
+    def __init__(self, j):
+        self.j = j
+        self.places = {}
+        for p, new in zip(j["places"], j["places_by_name"]):
+            self.places[flat(p[0])] = dict(old=p[0], new=new, parent=p[1] and flat(p[1]), step=p[2], callee=p[3])
+        self.typed = {flat(p[0]): t for p, t in zip(j["places"], j["typed"])}
+        self.needs = j["needs"]
+        self.asked = [flat(a[0]) for a in j["asked_at"]]
+        self.loops = j["loops"]
+
+    def up(self, p, n):
+        for _ in range(n):
+            q = self.places.get(p)
+            if not q or not q["parent"]:
+                return None
+            p = q["parent"]
+        return p
+
+    def step(self, p, f):
+        """The place at or above p whose step has the old name f."""
+        for g in (flat(f), re.sub(r"_lem$", "", flat(f)), flat(f).lower()):
+            for here in (p, None):
+                q = here and self.places[here]
+                while q:
+                    if flat(q["step"][0]).lower() == g.lower():
+                        return q
+                    q = q["parent"] and self.places[q["parent"]]
+        return None
+
+    def steps(self):
+        return {flat(q["step"][0]): q for q in self.places.values()}
+
+
+class Turn:
+    def __init__(self, names, path):
+        self.n = names
+        self.path = path
+        self.said = []
+
+    def member(self, q, rest):
+        """The fields behind a step, in the new form."""
+        out = list(rest)
+        if out and out[0] in ("last", "new") and len(out) > 1 and out[1].isdigit() and q["callee"]:
+            muts = MUTS.get(q["callee"])
+            if muts is None:
+                muts = self.n.j["params"].get(q["callee"], [])
+            i = int(out[1])
+            out[0] = "new"
+            if i < len(muts):
+                out[1] = muts[i]
+            else:
+                self.said.append(f"new.{i} of {q['callee']}")
+        elif out and out[0] == "last":
+            out[0] = "new"
+        if out and out[0] == "inv":
+            out[0] = "invariant"
+        if out and out[0] == "taken":
+            out[0] = "true"
+        if out and out[0] == "left":
+            out[0] = "false"
+        if out and out[0] in ("type-inv",):
+            out[0] = "type_inv"
+        return out
+
+    def chain(self, head, place, fields, var):
+        """head.fields, at a place; the new text."""
+        p = place
+        i = 0
+        while i < len(fields) and fields[i] == "before":
+            p = self.n.up(p, 1)
+            i += 1
+            if p is None:
+                p = "Start"
+        rest = fields[i:]
+        if not rest:
+            return var
+        f = rest[0]
+        if f in ROOT:
+            f = {"pre": "requires", "well-formed": "well_formed"}.get(f, f)
+            return ".".join([var, f] + rest[1:])
+        q = self.n.step(p, f) or self.n.step(place, f)
+        if not q:
+            self.said.append(f"no step {f} at {p}: {head}.{'.'.join(fields)}")
+            return ".".join([var] + [flat(x) for x in rest])
+        tail = rest[1:]
+        if tail[:1] == ["given"]:
+            for pl, t in self.n.typed.items():
+                for v, s in t:
+                    if flat(s) == flat(f):
+                        return ".".join([var, "type_inv", v] + tail[1:])
+        return ".".join([var, q["step"][1]] + self.member(q, tail))
+
+    def body(self, text, place, var="c"):
+        """The text of a proof whose record is var at place, in the new form."""
+        vars_ = {var: place}
+
+        def let(m):
+            vars_[m[1]] = flat(m[2])
+            return ""
+
+        text = re.sub(r"let ([\w']+) : tie\.([\w-]+)(?: [a-z][\w-]*-[\w-]+)* = \(?search\)? in\s*", let, text)
+
+        def one(m):
+            h, fs = m[1], m[2][1:].split(".")
+            if h not in vars_ or vars_[h] not in self.n.places:
+                return m[0]
+            return self.chain(h, vars_[h], fs, var)
+
+        text = CHAIN.sub(one, text)
+        # whole places that are handed on
+        for v in vars_:
+            if v != var:
+                text = re.sub(rf"(?<![\w.'-]){v}(?![\w'-]|\.)", var, text)
+        text = text.replace("(search)", var)
+        return text
+
+
+def turn(crate, folder, names, path):
+    p = os.path.join(folder, "Proof.antt")
+    text = open(p, encoding="utf-8").read()
+    key = f"Rattle-{crate}-{path}.Lts"
+    if key not in names or "tie.close" not in text or "tie.spec" not in text:
+        return f"left: {p}: by hand ({'no names' if key not in names else 'no tie.spec'})"
+    n = Names(names[key])
+    t = Turn(n, p)
+    bs = blocks(text)
+    head = [l for b in bs if b[0].startswith("--") for l in b]
+    comments, uses, items, pending = [], [], [], []
+    for b in bs:
+        if b[0].startswith("use "):
+            uses.append("\n".join(b).strip())
+        elif b[0].startswith("--"):
+            (pending if uses else comments).append("\n".join(b).rstrip())
+        else:
+            items.append((pending, b))
+            pending = []
+    # declarations: signature and equations
+    decls, order = {}, []
+    for pre, b in items:
+        m = re.match(r"((?:abbrev |pub |module |open )*)([^\s:]+)", b[0])
+        name = m[2]
+        if name in decls:
+            decls[name]["lines"] += b
+        else:
+            decls[name] = dict(mods=m[1], lines=list(b), pre=pre)
+            order.append(name)
+    spec = [x for x in order if re.search(r"tie\.close", "\n".join(decls[x]["lines"]))]
+    if len(spec) != 1:
+        return f"left: {p}: specs {spec}"
+    st = "\n".join(decls[spec[0]]["lines"])
+    st = st[st.index("tie.spec") + 8 :]
+    args = args_of(re.sub(r"\s+", " ", st))
+    k = len(n.loops)
+    if len(args) != 2 * k + len(n.needs):
+        # goals that are gone or new: by the goal's name
+        by = {}
+        for a in args[2 * k :]:
+            if a in decls:
+                sig = re.search(r"tie\.Need-([\w-]+)", " ".join(decls[a]["lines"][:2]))
+                if sig:
+                    by[flat(sig[1])] = a
+            elif not SKIP.match(a):
+                t.said.append(f"dropped {a[:100]}")
+        found = []
+        for old, new in n.needs:
+            a = by.pop(flat(old), None) or by.pop(flat(new), None)
+            found.append(a or "(λ c. search rules)")
+        if by:
+            return f"left: {p}: {len(args)} arguments, {k} loops, {len(n.needs)} goals; {sorted(by)} among {[x[1] for x in n.needs]}"
+        args = args[: 2 * k] + found
+    inv, ans, used = [], [], {spec[0]}
+    # invariants and measures
+    for i in range(k):
+        (old, new), vs = n.loops[i]
+        ch = n.j["changed"][i]
+        for j, kind in ((0, "invariant"), (1, "decreases")):
+            a = args[2 * i + j]
+            if a not in decls:
+                return f"left: {p}: {kind} {a[:60]}"
+            used.add(a)
+            ls = decls[a]["lines"]
+            eq = "\n".join(ls[1:]).strip("\n")
+            m = re.match(rf"{re.escape(a)}((?: [^\s=]+)*) =", eq)
+            if not m:
+                return f"left: {p}: {kind} {eq[:60]}"
+            ps = m[1].split()
+            body = eq[m.end() :]
+            news = ["initial." + v if c else v for v, c in zip(vs, ch)] + [v for v, c in zip(vs, ch) if c]
+            if len(ps) != len(news):
+                return f"left: {p}: {kind} has {len(ps)} arguments, not {len(news)}"
+            mp = {x: "l." + y for x, y in zip(ps, news) if x != "_"}
+            for bound in re.findall(r"λ \(?([^\s:.)]+)", body):
+                if bound in mp:
+                    t.said.append(f"bound {bound} in {kind}")
+            body = re.sub(r"(?<![\w.'-])(?:[^\s(){}.;,:@\"«»\[\]`]+)", lambda m: mp.get(m[0], m[0]), body)
+            inv += decls[a]["pre"] + [f"abbrev pub {kind}-{new} : goal.{kind}-{new}", f"{kind}-{new} l ={body}", ""]
+    imp = set()
+    needed = []
+    for i, (old, new) in enumerate(n.needs):
+        a = args[2 * k + i]
+        place = n.asked[i]
+        if SKIP.match(a):
+            continue
+        if a in decls:
+            used.add(a)
+            ls = decls[a]["lines"]
+            sig = 1
+            while sig < len(ls) and ls[sig].startswith((" ", "\t")):
+                sig += 1
+            eq = "\n".join(ls[sig:]).strip("\n")
+            eqs = [x for x in ls[sig:] if x.startswith(a + " ")]
+            if len(eqs) != 1:
+                t.said.append(f"equations of {a}: {len(eqs)}")
+            m = re.match(rf"{re.escape(a)} ([\w']+)( κs)?((?: [^\s=]+)*) =", eq)
+            if not m:
+                return f"left: {p}: answer {eq[:70]}"
+            body = eq[m.end() :]
+            v = m[1]
+            b2 = t.body(body, place, v)
+            needed += decls[a]["pre"] + [f"pub {new} : goal.{new}", f"{new} {v}{m[3]} ={b2}", ""]
+        else:
+            m = re.match(r"^\(λ (\w+)( κs)?\. (.*)\)$", a)
+            if m:
+                b2 = t.body(m[3], place, m[1])
+                needed += [f"pub {new} : goal.{new}", f"{new} {m[1]} = {b2}", ""]
+            else:
+                needed += [f"pub {new} : goal.{new}", f"{new} c = {t.body(a, place)} c", ""]
+                t.said.append(f"argument {a[:60]}")
+    helpers = []
+    for x in order:
+        if x in used:
+            continue
+        ls = "\n".join(decls[x]["lines"])
+        m = re.search(r"\((\w+) : tie\.([\w-]+)", ls)
+
+        def typ(m2):
+            pl = n.places.get(flat(m2[1]))
+            w = pl["new"] if pl else m2[1]
+            imp.add(w)
+            return w
+
+        if m:
+            place = flat(m[2])
+            ls = t.body(ls, place, m[1])
+        ls = re.sub(r"tie\.([\w-]+)(?: (?:invariant|decreases)-[\w-]+)*", typ, ls)
+        helpers += decls[x]["pre"] + [ls.rstrip("\n"), ""]
+    # imports
+    keep = []
+    for u in uses:
+        if re.search(r"\.Statement\.\{statement\}|\.Tie as tie|borrow\.Author\.Needs", u):
+            continue
+        keep.append(u)
+
+    def cut(us, body):
+        toks = set(TOKEN.findall(re.sub(r"--.*", "", body)))
+        ops = {c for w in toks for c in [w]}
+        out = []
+        for u in us:
+            m = re.match(r"use ([^\s{]+)\.\{(.*)\}$", u, re.S)
+            if not m:
+                out.append(u)
+                continue
+            ns = []
+            for x in re.split(r",\s*", m[2].strip().rstrip(",")):
+                x = x.strip()
+                w = x.split(" as ")[-1]
+                if "◌" in w:
+                    if any(tok == w.replace("◌", "") for tok in ops) or w.replace("◌", "") in body:
+                        ns.append(x)
+                elif w in toks or w in body:
+                    ns.append(x)
+            if ns:
+                out.append(f"use {m[1]}.{{{', '.join(ns)}}}")
+        return out
+
+    mod = f"Rattle.{crate}.{path}"
+    inv_text = "\n".join(inv)
+    helper_text = "\n".join(helpers)
+    hnames = [x for x in order if x not in used]
+    in_inv = [x for x in hnames if re.search(rf"(?<![\w.'-]){re.escape(x)}(?![\w'-])", inv_text)]
+    if in_inv:
+        t.said.append(f"helpers in invariants: {in_inv}")
+    if inv:
+        ih = []
+        for x in in_inv:
+            ls = "\n".join(decls[x]["lines"]).rstrip("\n")
+            if not decls[x]["mods"].strip().endswith("pub"):
+                ls = re.sub(rf"^(abbrev )?{re.escape(x)}", rf"\1pub {x}", ls)
+            ih += decls[x]["pre"] + [ls, ""]
+        full = "\n".join(ih + inv)
+        us = cut(keep, full) + [f"use {mod}.Given as goal"]
+        open(os.path.join(folder, "Invariants.antt"), "w", encoding="utf-8").write("\n".join(comments + us) + "\n\n" + full.rstrip("\n") + "\n")
+        if in_inv:
+            helpers = []
+            for x in order:
+                if x in used or x in in_inv:
+                    continue
+                helpers += decls[x]["pre"] + ["\n".join(decls[x]["lines"]).rstrip("\n"), ""]
+    if needed:
+        full = "\n".join(helpers + needed)
+        us = cut(keep, full) + [f"use {mod}.Goals as goal"] + ([f"use {mod}.Goals.{{{', '.join(sorted(imp))}}}"] if imp else [])
+        if in_inv and any(re.search(rf"(?<![\w.'-]){re.escape(x)}(?![\w'-])", full) for x in in_inv):
+            us.append(f"use {mod}.Invariants.{{{', '.join(in_inv)}}}")
+        open(os.path.join(folder, "Answers.antt"), "w", encoding="utf-8").write("\n".join(([] if inv else comments) + us) + "\n\n" + full.rstrip("\n") + "\n")
+    os.remove(p)
+    if t.said:
+        return "look: " + p + ": " + "; ".join(t.said[:6])
+    return None
+
+
+def main(argv):
+    names_root = argv[0]
+    read_muts()
+    done = 0
+    for crate in argv[1:]:
+        jp = os.path.join(names_root, "crates", crate, "names.json")
+        if not os.path.exists(jp):
+            print(f"left: {crate}: no names")
+            continue
+        names = json.load(open(jp))
+        top = os.path.join("crates", crate)
+        for folder, dirs, fs in os.walk(os.path.join(top, "proofs")):
+            dirs.sort()
+            if "Proof.antt" in fs:
+                path = os.path.relpath(folder, top).replace(os.sep, ".")
+                said = turn(crate, folder, names, path)
+                if said:
+                    print(said)
+                else:
+                    done += 1
+    print(f"answers: {done} turned with nothing to look at")
+
+
+if __name__ == "__main__":
+    main(sys.argv[1:])
