@@ -24,7 +24,9 @@ def blocks(text):
     """The top-level pieces of a file: (names, lines)."""
     out, cur = [], []
     for line in text.split("\n"):
-        if line and not line[0].isspace() and not line.startswith(")"):
+        if line.startswith("unfolding ") and cur:
+            cur.append(line)
+        elif line and not line[0].isspace() and not line.startswith(")"):
             cur = [line]
             out.append(cur)
         elif cur or line.strip():
@@ -108,6 +110,9 @@ class Turn:
         self.n = names
         self.path = path
         self.said = []
+        self.helpers = {}
+        self.places_used = set()
+        self.goal = None
 
     def member(self, q, rest):
         """The fields behind a step, in the new form."""
@@ -131,7 +136,7 @@ class Turn:
         if out and out[0] == "left":
             out[0] = "false"
         if out and out[0] in ("type-inv",):
-            out[0] = "type_inv"
+            out[0] = "ok" if q["step"][0].startswith("if") else "type_inv"
         return out
 
     def chain(self, head, place, fields, var):
@@ -145,7 +150,10 @@ class Turn:
                 p = "Start"
         rest = fields[i:]
         if not rest:
-            return var
+            if not i or not self.goal:
+                return ".".join([head] + fields) if not self.goal else var
+            self.places_used.add(self.n.places[p]["new"])
+            return f"(goal.at.{self.goal} {var}).{self.n.places[p]['new']}"
         f = rest[0]
         if f in ROOT:
             f = {"pre": "requires", "well-formed": "well_formed"}.get(f, f)
@@ -158,7 +166,7 @@ class Turn:
         if tail[:1] == ["given"]:
             for pl, t in self.n.typed.items():
                 for v, s in t:
-                    if flat(s) == flat(f):
+                    if flat(s) == flat(f) and "shared" in s:
                         return ".".join([var, "type_inv", v] + tail[1:])
         return ".".join([var, q["step"][1]] + self.member(q, tail))
 
@@ -183,7 +191,16 @@ class Turn:
         for v in vars_:
             if v != var:
                 text = re.sub(rf"(?<![\w.'-]){v}(?![\w'-]|\.)", var, text)
-        text = text.replace("(search)", var)
+        return text
+
+    def at(self, text, goal, var):
+        """Helpers that take a place get it by its name."""
+        for h, pl in self.helpers.items():
+            w = f"(goal.at.{goal} {var}).{pl}"
+            new = re.sub(rf"(?<![\w.'-])({re.escape(h)}) (?:\(search\)|{re.escape(var)}(?![\w.'-]))", lambda m: m[1] + " " + w, text)
+            if new != text:
+                self.places_used.add(pl)
+            text = new
         return text
 
 
@@ -266,8 +283,14 @@ def turn(crate, folder, names, path):
                     t.said.append(f"bound {bound} in {kind}")
             body = re.sub(r"(?<![\w.'-])(?:[^\s(){}.;,:@\"«»\[\]`]+)", lambda m: mp.get(m[0], m[0]), body)
             inv += decls[a]["pre"] + [f"abbrev pub {kind}-{new} : goal.{kind}-{new}", f"{kind}-{new} l ={body}", ""]
-    imp = set()
+    imp = t.places_used
     needed = []
+    for x in order:
+        if x not in used:
+            m = re.match(r"(?:[^\n]*?) : \((\w+) : tie\.([\w-]+)", "\n".join(decls[x]["lines"]))
+            if m:
+                pl = n.places.get(flat(m[2]))
+                t.helpers[x] = pl["new"] if pl else m[2]
     for i, (old, new) in enumerate(n.needs):
         a = args[2 * k + i]
         place = n.asked[i]
@@ -283,17 +306,25 @@ def turn(crate, folder, names, path):
             eqs = [x for x in ls[sig:] if x.startswith(a + " ")]
             if len(eqs) != 1:
                 t.said.append(f"equations of {a}: {len(eqs)}")
+            unf = ""
+            while eq.startswith("unfolding "):
+                l, eq = eq.split("\n", 1)
+                unf += l + "\n"
             m = re.match(rf"{re.escape(a)} ([\w']+)( κs)?((?: [^\s=]+)*) =", eq)
             if not m:
                 return f"left: {p}: answer {eq[:70]}"
             body = eq[m.end() :]
             v = m[1]
-            b2 = t.body(body, place, v)
-            needed += decls[a]["pre"] + [f"pub {new} : goal.{new}", f"{new} {v}{m[3]} ={b2}", ""]
+            t.goal = new
+            b2 = t.at(t.body(body, place, v), new, v)
+            t.goal = None
+            needed += decls[a]["pre"] + [f"pub {new} : goal.{new}", f"{unf}{new} {v}{m[3]} ={b2}", ""]
         else:
             m = re.match(r"^\(λ (\w+)( κs)?\. (.*)\)$", a)
             if m:
-                b2 = t.body(m[3], place, m[1])
+                t.goal = new
+                b2 = t.at(t.body(m[3], place, m[1]), new, m[1])
+                t.goal = None
                 needed += [f"pub {new} : goal.{new}", f"{new} {m[1]} = {b2}", ""]
             else:
                 needed += [f"pub {new} : goal.{new}", f"{new} c = {t.body(a, place)} c", ""]

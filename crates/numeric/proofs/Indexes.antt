@@ -35,6 +35,8 @@ index_plus : (r : Float) (a c : ℕ) → 0 < c → HasValue r false a c → inde
 unfolding index_of
 index_plus (fin true m e) a c C v = absurd (true≢false v.0)
 index_plus (fin false m e) a c C v = quotient_same (m * up e) (down e) a c (down_pos e) C v.1
+index_plus nan a c C v = elim v [ ]
+index_plus (inf _) a c C v = elim v [ ]
 
 index_minus : (r : Float) (a c : ℕ) → 0 < a → HasValue r true a c → index_of r ≡ none
 unfolding index_of
@@ -43,6 +45,8 @@ index_minus (fin true m e) a c A v = rw (ne_eqb m 0 (λ z. no (zero_left a (down
   where
     no : a ≡ 0 → ⊥
     no z = omega (arith, z, A)
+index_minus nan a c A v = elim v [ ]
+index_minus (inf _) a c A v = elim v [ ]
 
 -- ---- of a number to which 0 was added
 
@@ -104,6 +108,8 @@ equal_value (fin false m e) (fin false k d) n h v q =
   where
     same : m * up e * down d ≡ k * up d * down e → k * up d * down e ≡ n * down d * down e
     same z = sym z ∙ ap (λ (y : ℕ). y * down d) (sym (mul-one (m * up e)) ∙ v.1) ∙ mul_right_comm n (down e) (down d)
+equal_value nan x n h v q = elim v [ ]
+equal_value (inf _) x n h v q = elim v [ ]
 
 pub index_equal : (x : Float) (n : ℕ) → n ≤ 2 ^ 53 → eq (whole n) x ≡ true → index_of x ≡ some n
 index_equal x n h q = equal_value (whole n) x n h (whole_value n h) q
@@ -126,6 +132,8 @@ other_value (fin false m e) (fin false k d) n v t h q = rw (ne_eqb (k * up d % d
   where
     cut_is : n ≡ k * up d / down d
     cut_is = omega (arith, t)
+other_value nan x n v t h q = elim v [ ]
+other_value (inf _) x n v t h q = elim v [ ]
 
     yes : k * up d % down d ≡ 0 → (eqb (m * up e * down d) (k * up d * down e) && true) ≡ true
     yes z =

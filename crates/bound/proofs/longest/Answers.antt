@@ -11,7 +11,7 @@ pub loop-i-preserved : goal.loop-i-preserved
 loop-i-preserved c =
     let l = c.loop-i in
     let w = c.wide-count in
-    (omega arith, longer_small _ c.wide-kind.result _ l.inv.1 w.ensures.1 c.items.ensures c.larger-most.ensures, longest_turn c.args.entries.now l.most l.i c.wide-kind.result w.result c.loop-i-test.true c.wide-kind.ensures.0 w.ensures.0 c.items.ensures c.larger-most.ensures l.inv.2)
+    (omega arith, longer_small _ c.wide-kind.result _ l.invariant.1 w.ensures.1 c.items.ensures c.larger-most.ensures, longest_turn c.args.entries.now l.most l.i c.wide-kind.result w.result c.loop-i-test.true c.wide-kind.ensures.0 w.ensures.0 c.items.ensures c.larger-most.ensures l.invariant.2)
 
 pub returns : goal.returns
 returns c =

@@ -15,7 +15,7 @@ put_name-p-requires c =
 pub loop-x-preserved : goal.loop-x-preserved
 loop-x-preserved c =
     let l = c.loop-x in
-    (omega arith, names_turn c.requires.0 c.args.state.now l.x c.loop-x-test.true l.inv.1 c.put_name-p.ensures)
+    (omega arith, names_turn c.requires.0 c.args.state.now l.x c.loop-x-test.true l.invariant.1 c.put_name-p.ensures)
 
 pub shape_of-out : goal.shape_of-out
 shape_of-out c = put_length c.requires.0 c.loop-x.invariant.1

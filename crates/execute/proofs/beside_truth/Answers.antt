@@ -7,9 +7,10 @@ use Rattle.vm.specs.RuntimeErr.{RegNoContents}
 use Rattle.execute.specs.inner.View.{bin_model, regs_of}
 use Rattle.execute.specs.laws.Acts.{reg_formed, reg_value, binop_others, binop_truths}
 use Rattle.execute.proofs.beside_truth.Goals as goal
+use Rattle.execute.proofs.beside_truth.Goals.{Start}
 
 pub kind_at-requires : goal.kind_at-requires
-kind_at-requires c = let s = c in reg_formed _ s.requires.0 _ s.requires.1 c.reg-b.ensures
+kind_at-requires c = let s = (goal.at.kind_at-requires c).Start in reg_formed _ s.requires.0 _ s.requires.1 c.reg-b.ensures
 
 pub returns-then-kind_at-ne3 : goal.returns-then-kind_at-ne3
 returns-then-kind_at-ne3 c =

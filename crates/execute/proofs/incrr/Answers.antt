@@ -13,8 +13,6 @@ use Rattle.execute.specs.declared.Got.TheVariants as got
 use Rattle.numeric.specs.Whole.{whole}
 use Rattle.execute.proofs.incrr.Goals as goal
 
-unfolding Ieee.of_int Ieee.of_bits
-
 pub kind_at-k-requires : goal.kind_at-k-requires
 kind_at-k-requires c =
     reg_formed _ c.requires.0 _ c.requires.1 c.reg-at.ensures
@@ -24,6 +22,7 @@ number_at-requires c =
     let f = reg_formed _ c.requires.0 _ c.requires.1 c.reg-at.ensures in (f.0, f.1, sym c.kind_at-k.ensures ∙ c.if-k-eq1.true)
 
 pub returns-then-k-eq1 : goal.returns-then-k-eq1
+unfolding Ieee.of_int Ieee.of_bits
 returns-then-k-eq1 c =
     moved_on (λ x. Ieee.add binary64 x (whole 1)) InvalidIncr InvalidIncrTy (sym (reg_value _ c.requires.0 _ c.requires.1 c.reg-at.ensures) ∙ c.number_at.ensures) (ap got.Ok c.pack.ensures)
 

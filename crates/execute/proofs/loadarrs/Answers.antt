@@ -15,8 +15,6 @@ use Rattle.execute.specs.laws.Readers.{size_off, size_in_lem}
 use Rattle.execute.specs.declared.Got.TheVariants as got
 use Rattle.execute.proofs.loadarrs.Goals as goal
 
-unfolding in_float
-
 pub kind_at-k-requires : goal.kind_at-k-requires
 kind_at-k-requires c =
     name_formed _ c.requires.0 _ c.requires.1 c.slot-at.ensures
@@ -30,6 +28,7 @@ len_at-n-requires c =
     name_formed _ c.requires.0 _ c.requires.1 c.slot-at.ensures
 
 pub int_to_float-n : goal.int_to_float-n
+unfolding in_float
 int_to_float-n c =
     le→leb c.len_at-n.result (2 ^ 53) (let l = arr_len (part c.args.state.now c.slot-at.result 256) (name_formed _ c.requires.0 _ c.requires.1 c.slot-at.ensures).1 (sym c.kind_at-k.ensures ∙ c.if-k-ne5.false) c.len_at-n.ensures in omega (arith, l.1))
 

@@ -9,15 +9,15 @@ use Rattle.execute.specs.laws.Acts.{reg_formed, reg_value}
 use Rattle.execute.specs.laws.Arrays.{loadarrv_off, loadarrv_at}
 use Rattle.execute.specs.declared.Got.TheVariants as got
 use Rattle.execute.proofs.loadarrv.Goals as goal
-use Rattle.execute.proofs.loadarrv.Goals.{After-number_at}
+use Rattle.execute.proofs.loadarrv.Goals.{After-number_at, Start}
 
 -- the register holds the number
-number_in : (c : After-number_at) → let c = c in regs_of c.args.state.now c.args.idx ≡ some (One (Num c.number_at.result))
+number_in : (c : After-number_at) → let c = c.before.before.before.before.before in regs_of c.args.state.now c.args.idx ≡ some (One (Num c.number_at.result))
 number_in c =
     sym (reg_value _ c.requires.0 _ c.requires.2 c.reg-at.ensures) ∙ c.number_at.ensures
 
 pub kind_at-requires : goal.kind_at-requires
-kind_at-requires c = let s = c in reg_formed _ s.requires.0 _ s.requires.2 c.reg-at.ensures
+kind_at-requires c = let s = (goal.at.kind_at-requires c).Start in reg_formed _ s.requires.0 _ s.requires.2 c.reg-at.ensures
 
 pub returns-then-kind_at-ne1 : goal.returns-then-kind_at-ne1
 returns-then-kind_at-ne1 c =
@@ -30,8 +30,8 @@ number_at-requires c =
 
 pub returns-in-At : goal.returns-in-At
 returns-in-At c =
-    loadarrv_at (names_of c.args.state.now) c.args.name (regs_of c.args.state.now c.args.idx) (number_in c) (told_at _ c.index_of.ensures c.i-1.given.1) c.item.ensures
+    loadarrv_at (names_of c.args.state.now) c.args.name (regs_of c.args.state.now c.args.idx) (number_in (goal.at.returns-in-At c).After-number_at) (told_at _ c.index_of.ensures c.i-1.given.1) c.item.ensures
 
 pub returns-in-None : goal.returns-in-None
 returns-in-None c =
-    loadarrv_at (names_of c.args.state.now) c.args.name (regs_of c.args.state.now c.args.idx) (number_in c) (told_none _ c.index_of.ensures c.enum_told-1.given.1) (err (ap got.Err c.no_index.ensures))
+    loadarrv_at (names_of c.args.state.now) c.args.name (regs_of c.args.state.now c.args.idx) (number_in (goal.at.returns-in-None c).After-number_at) (told_none _ c.index_of.ensures c.enum_told-1.given.1) (err (ap got.Err c.no_index.ensures))

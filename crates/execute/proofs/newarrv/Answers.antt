@@ -21,7 +21,7 @@ number_in c =
     let s = start c in
     sym (reg_value _ s.pre.0 _ s.pre.2 c.reg-at.ensures) ∙ c.number_at.ensures
 
-value_in : (c : Else-kind_at-eq0) → let c = c in kind_in (seen (regs_of c.args.state.now c.args.val)) ≡ 0 → ⊥
+value_in : (c : Else-kind_at-eq0) → let c = c.before.before.before.before.before.before.before.before.before in kind_in (seen (regs_of c.args.state.now c.args.val)) ≡ 0 → ⊥
 value_in c z =
     c.if-kind_at-eq0.false ((c.kind_at-2.ensures ∙ ap (λ (o : Option Value). kind_in (seen o)) (reg_value _ c.requires.0 _ c.requires.3 c.reg.ensures)) ∙ z)
 
@@ -47,14 +47,14 @@ number_at-requires c =
 
 pub update-requires : goal.update-requires
 update-requires c =
-    (c.requires.0, c.requires.1, c.requires.3, value_in c)
+    (c.requires.0, c.requires.1, c.requires.3, value_in (goal.at.update-requires c).Else-kind_at-eq0)
 
 pub returns-in-At : goal.returns-in-At
 returns-in-At c =
     let s = start c in
-    newarrv_at s.args.state.now s.args.name (regs_of s.args.state.now s.args.idx) (regs_of s.args.state.now s.args.val) (number_in c) (told_at _ c.index_of.ensures c.i-1.given.1) c.update.ensures
+    newarrv_at s.args.state.now s.args.name (regs_of s.args.state.now s.args.idx) (regs_of s.args.state.now s.args.val) (number_in (goal.at.returns-in-At c).After-number_at) (told_at _ c.index_of.ensures c.i-1.given.1) c.update.ensures
 
 pub returns-in-None : goal.returns-in-None
 returns-in-None c =
     let s = start c in
-    newarrv_no_index s.args.state.now s.args.name (regs_of s.args.state.now s.args.idx) (regs_of s.args.state.now s.args.val) (number_in c) (told_none _ c.index_of.ensures c.enum_told-1.given.1) (value_in c) (ap did.Err c.no_index.ensures) refl
+    newarrv_no_index s.args.state.now s.args.name (regs_of s.args.state.now s.args.idx) (regs_of s.args.state.now s.args.val) (number_in (goal.at.returns-in-None c).After-number_at) (told_none _ c.index_of.ensures c.enum_told-1.given.1) (value_in (goal.at.returns-in-None c).Else-kind_at-eq0) (ap did.Err c.no_index.ensures) refl

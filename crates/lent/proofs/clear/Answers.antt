@@ -15,9 +15,9 @@ loop-i-preserved c =
     let a = c.args in
     let l = c.loop-i in
     let z = length-replicate {A = ℕ} 136 0 in
-    let t = clear_turn a.d.now l.d a.n l.i l.inv.2 l.inv.3 (omega arith) l.i 136 (omega arith) (omega arith) (l.i + 128) (omega arith) c.zero.ensures in (
+    let t = clear_turn a.d.now l.d a.n l.i l.invariant.2 l.invariant.3 (omega arith) l.i 136 (omega arith) (omega arith) (l.i + 128) (omega arith) c.zero.ensures in (
       omega arith,
-      ap length c.zero.ensures ∙ length_splice l.d l.i (replicate 136 0) (omega arith) ∙ l.inv.1,
+      ap length c.zero.ensures ∙ length_splice l.d l.i (replicate 136 0) (omega arith) ∙ l.invariant.1,
       t.0,
       t.1,
     )
@@ -26,7 +26,7 @@ pub shape_of-d : goal.shape_of-d
 shape_of-d c =
     let l = c.loop-i in
     let z = length-replicate {A = ℕ} 136 0 in
-    ap length c.zero-2.ensures ∙ length_splice l.d (c.args.n - 136) (replicate 136 0) (omega arith) ∙ l.inv.1
+    ap length c.zero-2.ensures ∙ length_splice l.d (c.args.n - 136) (replicate 136 0) (omega arith) ∙ l.invariant.1
 
 pub returns : goal.returns
 returns c =
@@ -34,5 +34,5 @@ returns c =
     let l = c.loop-i in
     let z = length-replicate {A = ℕ} 136 0 in
     let m : length c.zero-2.new.d ≡ length l.d = ap length c.zero-2.ensures ∙ length_splice l.d (a.n - 136) (replicate 136 0) (omega arith) in
-    let t = clear_turn a.d.now l.d a.n l.i l.inv.2 l.inv.3 (omega arith) (a.n - 136) 136 c.loop-i-test.false (omega arith) a.n (omega arith) c.zero-2.ensures in
+    let t = clear_turn a.d.now l.d a.n l.i l.invariant.2 l.invariant.3 (omega arith) (a.n - 136) 136 c.loop-i-test.false (omega arith) a.n (omega arith) c.zero-2.ensures in
     clear_end a.d.now _ a.n (omega arith) t.0 t.1

@@ -1,5 +1,4 @@
 use mathlib.Core.Path.{refl, sym}
-use mathlib.Core.Logic.{⊎_elim}
 use Prim.Native.Nat.{ℕ, ◌-◌}
 use native.Mathlib.Omega.{arith}
 use lib.ListN.{replicate, length-replicate, get_or-replicate}
@@ -7,6 +6,7 @@ use Rattle.lent.specs.Bytes.{part}
 use Rattle.lent.specs.laws.Parts.{length_part, get_d_part}
 use Rattle.lent.proofs.Loops.{same_differ, same_agree, same_end}
 use Rattle.lent.proofs.each_zero.Goals as goal
+use Rattle.lent.proofs.each_zero.Goals.{then-s-at-ne0, else-s-at-ne0}
 
 pub loop-i-init : goal.loop-i-init
 loop-i-init c = (omega arith, refl)
@@ -21,10 +21,10 @@ loop-i-preserved c =
     let ea = sym (get_d_part r.s.now r.at r.n l.i 0 (omega arith)) in
     let eb = sym (get_or-replicate {A = ℕ} r.n l.i 0 0 (omega arith)) in (
       omega arith,
-      ⊎_elim
-          (λ w. same_differ a (replicate r.n 0) l.i _ 0 l.ok c.if-s-at-ne0.type_inv (omega arith) (omega arith) ea eb l.invariant.1 w.0.taken w.1)
-          (λ w. same_agree a (replicate r.n 0) l.i _ 0 l.ok c.if-s-at-ne0.type_inv (omega arith) (omega arith) ea eb l.invariant.1 w.0.left w.1)
-          c.if-s-at-ne0.branch,
+      elim c.if-s-at-ne0.branch [
+        then-s-at-ne0 w ↦ same_differ a (replicate r.n 0) l.i _ 0 l.ok c.if-s-at-ne0.ok (omega arith) (omega arith) ea eb l.invariant.1 w.if-s-at-ne0.true w.ok-is
+        | else-s-at-ne0 w ↦ same_agree a (replicate r.n 0) l.i _ 0 l.ok c.if-s-at-ne0.ok (omega arith) (omega arith) ea eb l.invariant.1 w.if-s-at-ne0.false w.ok-is
+      ],
     )
 
 pub returns : goal.returns

@@ -1,11 +1,11 @@
 use mathlib.Core.Path.{refl, sym}
-use mathlib.Core.Logic.{⊎_elim}
 use Prim.Native.Nat.{◌-◌}
 use native.Mathlib.Omega.{arith}
 use Rattle.lent.specs.Bytes.{part}
 use Rattle.lent.specs.laws.Parts.{length_part, get_d_part}
 use Rattle.lent.proofs.Loops.{same_differ, same_agree, same_end}
 use Rattle.lent.proofs.same.Goals as goal
+use Rattle.lent.proofs.same.Goals.{then-a-at, else-a-at}
 
 pub loop-i-init : goal.loop-i-init
 loop-i-init c = (omega arith, refl)
@@ -21,10 +21,10 @@ loop-i-preserved c =
     let ea = sym (get_d_part r.a.now r.at r.n l.i 0 (omega arith)) in
     let eb = sym (get_d_part r.b.now r.bt r.n l.i 0 (omega arith)) in (
       omega arith,
-      ⊎_elim
-          (λ w. same_differ a b l.i _ _ l.ok c.if-a-at.type_inv (omega arith) (omega arith) ea eb l.invariant.1 w.0.taken w.1)
-          (λ w. same_agree a b l.i _ _ l.ok c.if-a-at.type_inv (omega arith) (omega arith) ea eb l.invariant.1 w.0.left w.1)
-          c.if-a-at.branch,
+      elim c.if-a-at.branch [
+        then-a-at w ↦ same_differ a b l.i _ _ l.ok c.if-a-at.ok (omega arith) (omega arith) ea eb l.invariant.1 w.if-a-at.true w.ok-is
+        | else-a-at w ↦ same_agree a b l.i _ _ l.ok c.if-a-at.ok (omega arith) (omega arith) ea eb l.invariant.1 w.if-a-at.false w.ok-is
+      ],
     )
 
 pub returns : goal.returns

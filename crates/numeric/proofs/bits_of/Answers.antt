@@ -14,11 +14,11 @@ both c r e = (e, ap (of_bits binary64) e ∙ pattern_back c.args.x (subst T (sym
 
 pub returns-then-x : goal.returns-then-x
 returns-then-x c =
-    let start = c in
+    let start = (goal.at.returns-then-x c).Start in
     both start 0x7ff8_0000_0000_0000 (sym (ap bits_of (differs_from_itself start.args.x (subst T (sym c.if-x.true) tt)) ∙ bits_nan))
 
 pub float_to_bits-result : goal.float_to_bits-result
 float_to_bits-result c = no_nan c.args.x c.if-x.false
 
 pub returns : goal.returns
-returns c = both c (bits_of c.args.x) refl
+returns c = both (goal.at.returns c).Start (bits_of c.args.x) refl

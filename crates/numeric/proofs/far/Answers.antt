@@ -19,16 +19,16 @@ whole : (c : Start) → (e c / 2 ^ k c * 2 ^ k c % 18446744073709551616 ≡ e c 
 whole c = cut (e c) (k c) (omega arith)
 
 pub overflow_cast-k : goal.overflow_cast-k
-overflow_cast-k c = omega (arith, (found c).zeros)
+overflow_cast-k c = omega (arith, (found (goal.at.overflow_cast-k c).Start).zeros)
 
 pub overflow_sub-k-2 : goal.overflow_sub-k-2
-overflow_sub-k-2 c = (found c).zeros
+overflow_sub-k-2 c = (found (goal.at.overflow_sub-k-2 c).Start).zeros
 
 pub power-x-requires : goal.power-x-requires
-power-x-requires c = ((found c).few, c.reciprocal_of-v.ensures)
+power-x-requires c = ((found (goal.at.power-x-requires c).Start).few, c.reciprocal_of-v.ensures)
 
 pub overflow_sub-s : goal.overflow_sub-s
-overflow_sub-s c = let w = whole c in omega arith
+overflow_sub-s c = let w = whole (goal.at.overflow_sub-s c).Start in omega arith
 
 pub product-requires : goal.product-requires
 product-requires c =
@@ -37,7 +37,7 @@ product-requires c =
 
 pub returns : goal.returns
 returns c =
-    let w = whole c in
+    let w = whole (goal.at.returns c).Start in
     c.product.ensures.0
     ∙ far_same c.args.m c.args.n c.args.s _ _ c.power-x.result c.reduced-y.result w.0 (omega arith)
     c.power-x.ensures.0 c.reduced-y.ensures

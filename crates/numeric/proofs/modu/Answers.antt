@@ -26,27 +26,27 @@ answer_nan c h = subst (Answer c) (sym zero_by_zero) (answer c nan h)
 
 pub returns-then-p-ge-INFINITY : goal.returns-then-p-ge-INFINITY
 returns-then-p-ge-INFINITY c =
-    let k = c in
+    let k = (goal.at.returns-then-p-ge-INFINITY c).After-bits_of-y in
     answer_nan k (no_dividend (x k) (of_bits binary64 (y k)) c.if-p-ge-INFINITY.true)
 
 pub returns-then-q-gt-INFINITY : goal.returns-then-q-gt-INFINITY
 returns-then-q-gt-INFINITY c =
-    let k = c in
+    let k = (goal.at.returns-then-q-gt-INFINITY c).After-bits_of-y in
     answer_nan k (nan_divisor (of_bits binary64 (x k)) (y k) c.if-q-gt-INFINITY.true)
 
 pub returns-then-q-eq0 : goal.returns-then-q-eq0
 returns-then-q-eq0 c =
-    let k = c in
+    let k = (goal.at.returns-then-q-eq0 c).After-bits_of-y in
     answer_nan k (zero_divisor (of_bits binary64 (x k)) (y k) c.if-q-eq0.true)
 
 pub returns-then-p-q : goal.returns-then-p-q
 returns-then-p-q c =
-    let k = c in
+    let k = (goal.at.returns-then-p-q c).After-bits_of-y in
     subst (Answer k) k.before.bits_of.ensures.1 (answer k (of_bits binary64 (x k)) (smaller (x k) (y k) c.if-p-q.true (omega arith)))
 
 pub returns : goal.returns
 returns c =
-    let k = c in
+    let k = (goal.at.returns c).After-bits_of-y in
     let r = c.rest_of in
     subst (Answer k) (sym c.from_bits.ensures)
     (answer k (of_bits binary64 _) (signed_remainder (x k) (y k) r.result (omega arith) (omega arith) (omega arith) (omega arith) r.ensures.1 r.ensures.0))

@@ -2,6 +2,7 @@ use Rattle.std.proofs.Common.{◌≡◌, ℕ, ◌-◌, ◌*◌, ◌%◌, ◌^◌
 use lib.Pow.{pow-lt}
 use Rattle.numeric.proofs.Products.{squared}
 use Rattle.numeric.proofs.power.Goals as goal
+use Rattle.numeric.proofs.power.Goals.{Start}
 
 pub loop-i-init : goal.loop-i-init
 loop-i-init c =
@@ -20,6 +21,6 @@ loop-i-preserved c =
 pub returns : goal.returns
 returns c =
     let l = c.loop-i in
-    let start = c in
+    let start = (goal.at.returns c).Start in
     let done : l.i ≡ start.args.k = omega arith in
     (l.invariant.0 ∙ ap (λ (z : ℕ). 2 ^ (start.args.c * 2 ^ z) % start.args.n) done, l.invariant.1)

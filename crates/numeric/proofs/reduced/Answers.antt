@@ -1,6 +1,7 @@
 use Rattle.std.proofs.Common.{ℕ, ◌*◌, ◌%◌, refl, ap, ◌∙◌, mod-lt, arith, shl_exact}
 use Rattle.numeric.proofs.Units.{turn}
 use Rattle.numeric.proofs.reduced.Goals as goal
+use Rattle.numeric.proofs.reduced.Goals.{Start}
 
 pub loop-left-init : goal.loop-left-init
 loop-left-init c = (refl, c.requires.0)
@@ -11,7 +12,7 @@ nonzero_rem-r c = c.requires.1
 pub loop-left-preserved : goal.loop-left-preserved
 loop-left-preserved c =
     let l = c.loop-left in
-    let start = c in
+    let start = (goal.at.loop-left-preserved c).Start in
     (turn l.r start.args.n l.left (omega arith) ∙ l.invariant.0, omega (arith, mod-lt (l.r * 2048) start.requires.1))
 
 pub nonzero_rem-result : goal.nonzero_rem-result

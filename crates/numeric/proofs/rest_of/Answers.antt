@@ -3,10 +3,11 @@ use Rattle.std.proofs.Common.{◌≡◌, ◌-◌, ◌*◌, ◌%◌, ◌^◌, ◌
 use Rattle.numeric.specs.inner.Fields.{significand, exponent}
 use Rattle.numeric.proofs.Units.{exponent_le, exponent_mono, significand_pos, significand_lt, rest}
 use Rattle.numeric.proofs.rest_of.Goals as goal
+use Rattle.numeric.proofs.rest_of.Goals.{Start}
 
 pub overflow_sub-s : goal.overflow_sub-s
 overflow_sub-s c =
-    let start = c in
+    let start = (goal.at.overflow_sub-s c).Start in
     omega (arith, c.exponent_of-k.ensures, c.exponent_of.ensures, exponent_mono start.args.q start.args.p start.requires.1)
 
 pub remainder_of-r-requires : goal.remainder_of-r-requires

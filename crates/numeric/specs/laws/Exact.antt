@@ -34,6 +34,10 @@ pub value_one : (x y : Float) (s : Bool) (a c : ℕ) → 0 < c → T (fits binar
 value_one (fin t m e) (fin u n d) s a c C h g v w =
     pattern_one (fin t m e) (fin u n d) h g
     (ap (λ (b : Bool). to_bits binary64 (fin b m e)) (v.0 ∙ sym w.0) ∙ pattern_same u m n e d (cross (m * up e) (n * up d) (down e) (down d) a c C v.1 w.1))
+value_one nan y s a c C h g v w = elim v [ ]
+value_one (inf _) y s a c C h g v w = elim v [ ]
+value_one (fin t m e) nan s a c C h g v w = elim w [ ]
+value_one (fin t m e) (inf _) s a c C h g v w = elim w [ ]
 
 pub remainder_one : (a b r q : Float) → Remainder a b r → Remainder a b q → r ≡ q
 remainder_one nan b r q h g = h ∙ sym g
@@ -70,6 +74,8 @@ module _ (m n : ℕ) (e d : ℤ) (A B L : ℕ) (P : 0 < n) (Q : 0 < B) (Lp : 0 <
 -- from one fraction to another of the same size
 rescale : (x : Float) (s : Bool) (w l num den : ℕ) → 0 < l → num * l ≡ w * den → HasValue x s w l → HasValue x s num den
 rescale (fin t m e) s w l num den p h v = (v.0, cross (m * up e) num (down e) den w l p v.1 h)
+rescale nan s w l num den p h v = elim v [ ]
+rescale (inf _) s w l num den p h v = elim v [ ]
 
 no_product : (x y : ℕ) → x ≡ 0 → x ≡ y → 0 < y → ⊥
 no_product x y e h p = omega arith
@@ -86,6 +92,10 @@ remainder_of_values (fin s' m e) (fin t' (suc n) d) r s t A B L Lp Bp v w h u =
           (subst (λ (q : Bool). HasValue r q (x % y) D) (sym v.0)
           (rescale r s (A % B) L (x % y) D Lp (other_unit m (suc n) e d A B L (zero-lt-suc n) Bp Lp v.1 w.1) u)),
     )
+remainder_of_values nan b r s t A B L Lp Bp v w h u = elim v [ ]
+remainder_of_values (inf _) b r s t A B L Lp Bp v w h u = elim v [ ]
+remainder_of_values (fin s' m e) nan r s t A B L Lp Bp v w h u = elim w [ ]
+remainder_of_values (fin s' m e) (inf _) r s t A B L Lp Bp v w h u = elim w [ ]
 
 -- ---- the computed remainder rounds nothing
 

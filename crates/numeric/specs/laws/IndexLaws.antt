@@ -41,6 +41,8 @@ pub index_value : (x : Float) (n : ℕ) → n < 2 ^ 64 → HasValue x false n 1 
 unfolding index_of
 index_value (fin true m e) n h v = absurd (true≢false v.0)
 index_value (fin false m e) n h v = quotient_whole (m * up e) (down e) n (down_pos e) (sym (mul-one (m * up e)) ∙ v.1) h
+index_value nan n h v = elim v [ ]
+index_value (inf _) n h v = elim v [ ]
 
 minus_zero : (x : Float) → HasValue x true 0 1 → index_of x ≡ some 0
 unfolding index_of
@@ -48,6 +50,8 @@ minus_zero (fin true m e) v =
     let z : m ≡ 0 = eq_of_mul-eq-mul_right (up e) (up_pos e) m 0 (sym (mul-one (m * up e)) ∙ v.1 ∙ zero-mul (down e) ∙ sym (zero-mul (up e))) in
     rw (eq-eqb m 0 z)
 minus_zero (fin false m e) v = absurd (true≢false (sym v.0))
+minus_zero nan v = elim v [ ]
+minus_zero (inf _) v = elim v [ ]
 
 -- where there is an index n, the number is minus zero and n is 0, or it is exactly the whole number n (0 for plus zero), below 2^64
 pub index_only : (x : Float) (n : ℕ) → index_of x ≡ some n → (HasValue x true 0 1 × (n ≡ 0)) ⊎ (HasValue x false n 1 × (n < 2 ^ 64))
@@ -99,6 +103,8 @@ largest (fin s m (pos i)) n f v h = go (nat_lt i 11) (ltb→lt i 11) (nltb→le 
 largest (fin s m (negsuc i)) n f v h =
     let q : n * 1 ≤ n * 2 ^ suc i = mul-le-mul_left n (pow_pos (suc i)) in
     omega (arith, q, v.1, (held binary64 s m (negsuc i) f).0)
+largest nan n f v h = elim v [ ]
+largest (inf _) n f v h = elim v [ ]
 
 pub index_largest : (x : Float) (n : ℕ) → T (fits binary64 x) → index_of x ≡ some n → n ≤ 18446744073709549568
 index_largest x n f h = go (index_only x n h)

@@ -43,6 +43,10 @@ lt_val (fin false m e) (fin false n d) a b v w =
     ap (λ (z : ℕ). ltb z (n * up d * down e)) (over m e a (down d) v.1)
     ∙ ap (λ (z : ℕ). ltb (a * (down e * down d)) z) (over n d b (down e) w.1 ∙ ap (λ (z : ℕ). b * z) (mul_comm (down d) (down e)))
     ∙ ltb_scale a b (down e * down d) (mul-pos (down_pos e) (down_pos d))
+lt_val lib.Ieee.nan y a b v w = elim v [ ]
+lt_val (lib.Ieee.inf _) y a b v w = elim v [ ]
+lt_val (fin false m e) lib.Ieee.nan a b v w = elim w [ ]
+lt_val (fin false m e) (lib.Ieee.inf _) a b v w = elim w [ ]
 
 pub whole_lt : (a b : ℕ) → a ≤ 2 ^ 53 → b ≤ 2 ^ 53 → lt (whole a) (whole b) ≡ nat_lt a b
 whole_lt a b h g = lt_val (whole a) (whole b) a b (whole_value a h) (whole_value b g)
@@ -60,6 +64,10 @@ add_val (fin false m e) (fin false n d) a b v w =
     ∙ ap (λ (z : ℕ). a * D + z) (over n d b (down e) w.1 ∙ ap (λ (z : ℕ). b * z) (mul_comm (down d) (down e)))
     ∙ sym (add-mul a b D))
     ∙ is_of_int (a + b)
+add_val lib.Ieee.nan y a b v w = elim v [ ]
+add_val (lib.Ieee.inf _) y a b v w = elim v [ ]
+add_val (fin false m e) lib.Ieee.nan a b v w = elim w [ ]
+add_val (fin false m e) (lib.Ieee.inf _) a b v w = elim w [ ]
 
 -- (a sum past 2 ^ 53 is the float nearest to it)
 pub whole_add : (a b : ℕ) → a ≤ 2 ^ 53 → b ≤ 2 ^ 53 → add binary64 (whole a) (whole b) ≡ whole (a + b)

@@ -22,11 +22,11 @@ pub put_gap-p-requires : goal.put_gap-p-requires
 put_gap-p-requires c = put_within c.requires.0 c.loop-i.invariant.1
 
 pub overflow_add-first : goal.overflow_add-first
-overflow_add-first c = omega (arith, inside c)
+overflow_add-first c = omega (arith, inside (goal.at.overflow_add-first c).In-loop-i)
 
 pub put_item-p-requires : goal.put_item-p-requires
 put_item-p-requires c =
-    (put_within c.requires.0 (put_then c.requires.0 c.loop-i.invariant.1 c.put_gap-p.ensures), c.requires.1, inside c)
+    (put_within c.requires.0 (put_then c.requires.0 c.loop-i.invariant.1 c.put_gap-p.ensures), c.requires.1, inside (goal.at.put_item-p-requires c).In-loop-i)
 
 pub loop-i-smaller : goal.loop-i-smaller
 loop-i-smaller c = omega (arith, c.loop-i-test.true)

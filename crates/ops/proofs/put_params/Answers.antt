@@ -18,19 +18,19 @@ pub loop-i-init : goal.loop-i-init
 loop-i-init c = (omega arith, put_none _ _ c.requires.0)
 
 pub overflow_add-first : goal.overflow_add-first
-overflow_add-first c = omega (arith, inside c)
+overflow_add-first c = omega (arith, inside (goal.at.overflow_add-first c).In-loop-i)
 
 pub overflow_mul-first : goal.overflow_mul-first
-overflow_mul-first c = omega (arith, inside c)
+overflow_mul-first c = omega (arith, inside (goal.at.overflow_mul-first c).In-loop-i)
 
 pub overflow_add-first-in-loop-i : goal.overflow_add-first-in-loop-i
-overflow_add-first-in-loop-i c = omega (arith, inside c)
+overflow_add-first-in-loop-i c = omega (arith, inside (goal.at.overflow_add-first-in-loop-i c).In-loop-i)
 
 pub overflow_add-first-in-loop-i-2 : goal.overflow_add-first-in-loop-i-2
-overflow_add-first-in-loop-i-2 c = omega (arith, inside c)
+overflow_add-first-in-loop-i-2 c = omega (arith, inside (goal.at.overflow_add-first-in-loop-i-2 c).In-loop-i)
 
 pub get_u64-requires : goal.get_u64-requires
-get_u64-requires c = omega (arith, c.requires.1, inside c)
+get_u64-requires c = omega (arith, c.requires.1, inside (goal.at.get_u64-requires c).In-loop-i)
 
 pub put_field-p-requires : goal.put_field-p-requires
 put_field-p-requires c = put_within c.requires.0 c.loop-i.invariant.1

@@ -42,8 +42,8 @@ loop-i-preserved c =
     let e : l.i ≡ l.i + 1 - 1 = omega arith in (
       omega arith,
       new.ensures ∙ ap (lbl_of b) e,
-      fill_turn (enters b) (lbl_of b) (length c.mark.new.t) a.n c.mark.new.t l.i l.t (not (eqb new.result l.was)) new.result c.loop-i-test.true l.inv.2
-          (ap₂ (λ (x y : ℕ). not (eqb x y)) new.ensures l.inv.1) new.ensures (λ _. omega (arith, new.ensures, u, k)) c.mark-in-loop-i.ensures,
+      fill_turn (enters b) (lbl_of b) (length c.mark.new.t) a.n c.mark.new.t l.i l.t (not (eqb new.result l.was)) new.result c.loop-i-test.true l.invariant.2
+          (ap₂ (λ (x y : ℕ). not (eqb x y)) new.ensures l.invariant.1) new.ensures (λ _. omega (arith, new.ensures, u, k)) c.mark-in-loop-i.ensures,
     )
 
 pub shape_of-t : goal.shape_of-t

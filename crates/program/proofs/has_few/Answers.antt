@@ -23,7 +23,7 @@ label-requires c = (omega arith, omega arith)
 pub loop-i-preserved : goal.loop-i-preserved
 loop-i-preserved c =
     let l = c.loop-i in
-    (omega arith, scan_turn (few_label c.args.program.now) c.args.n l.i l.ok _ (omega arith) l.inv.1 (ap (λ (x : ℕ). ltb x 128) c.label.ensures))
+    (omega arith, scan_turn (few_label c.args.program.now) c.args.n l.i l.ok _ (omega arith) l.invariant.1 (ap (λ (x : ℕ). ltb x 128) c.label.ensures))
 
 pub returns : goal.returns
 returns c =

@@ -9,8 +9,6 @@ use Rattle.records.proofs.Scan.{scan_first, scan_turn, scan_end}
 use Rattle.program.proofs.Stored.{same_less}
 use Rattle.program.proofs.same_table.Goals as goal
 
-unfolding same_table
-
 pub loop-l-init : goal.loop-l-init
 loop-l-init c = let a = c.args in (omega arith, scan_first _ (length a.t.now))
 
@@ -34,6 +32,7 @@ loop-l-preserved c =
     )
 
 pub returns : goal.returns
+unfolding same_table
 returns c =
     let a = c.args in
     let l = c.loop-l in

@@ -19,7 +19,7 @@ first g = let a = g.args in g.get_u64.ensures ∙ word_of a.program.now (16 * a.
 
 -- whether they may stand there
 span : (k : After-span_ok) → let a = k.args in let f = record_at a.program.now a.i in span_fits a.most f.len f.word a.next ≡ k.span_ok.result
-span k = rw (← len k, ← first k) (sym k.span_ok.ensures)
+span k = rw (← len (search), ← first (search)) (sym k.span_ok.ensures)
 
 pub overflow_cast-n : goal.overflow_cast-n
 overflow_cast-n c = omega (arith, c.type_inv.program (16 * c.args.i + 7))
@@ -28,16 +28,16 @@ pub span_ok-requires : goal.span_ok-requires
 span_ok-requires c = let a = c.args in (omega arith, omega (arith, c.type_inv.program (16 * a.i + 7)))
 
 pub entries_ok-requires : goal.entries_ok-requires
-entries_ok-requires c = (omega arith, ends c)
+entries_ok-requires c = (omega arith, ends (goal.at.entries_ok-requires c).Then-span_ok)
 
 pub overflow_add-result : goal.overflow_add-result
-overflow_add-result c = omega (arith, ends c)
+overflow_add-result c = omega (arith, ends (goal.at.overflow_add-result c).Then-span_ok)
 
 pub returns-then-entries_ok : goal.returns-then-entries_ok
-returns-then-entries_ok c = rw (span c ∙ c.if-span_ok.true, ← len c, ← c.entries_ok.ensures, c.if-entries_ok.true)
+returns-then-entries_ok c = rw (span (goal.at.returns-then-entries_ok c).After-span_ok ∙ c.if-span_ok.true, ← len (goal.at.returns-then-entries_ok c).Start, ← c.entries_ok.ensures, c.if-entries_ok.true)
 
 pub returns-then-span_ok : goal.returns-then-span_ok
-returns-then-span_ok c = rw (span c ∙ c.if-span_ok.true, ← len c, ← c.entries_ok.ensures, c.if-entries_ok.false)
+returns-then-span_ok c = rw (span (goal.at.returns-then-span_ok c).After-span_ok ∙ c.if-span_ok.true, ← len (goal.at.returns-then-span_ok c).Start, ← c.entries_ok.ensures, c.if-entries_ok.false)
 
 pub returns : goal.returns
-returns c = rw (span c ∙ c.if-span_ok.false)
+returns c = rw (span (goal.at.returns c).After-span_ok ∙ c.if-span_ok.false)

@@ -15,10 +15,10 @@ array k =
     ap₂ (λ (x y : ℕ). is_array x y) (sym (code k)) (sym (byte_of k.args.program.now (16 * k.args.i) 1 (omega arith))) ∙ sym k.is_array.ensures
 
 pub returns-then-is_array : goal.returns-then-is_array
-returns-then-is_array c = rw (array c ∙ c.if-is_array.true) c.entries.ensures
+returns-then-is_array c = rw (array (goal.at.returns-then-is_array c).After-is_array ∙ c.if-is_array.true) c.entries.ensures
 
 pub returns-then-code-eq-OP_FN : goal.returns-then-code-eq-OP_FN
-returns-then-code-eq-OP_FN c = rw (array c ∙ c.if-is_array.false, eq-eqb _ 16 (sym (code c) ∙ c.if-code-eq-OP_FN.true)) c.entries-then-code-eq-OP_FN.ensures
+returns-then-code-eq-OP_FN c = rw (array (goal.at.returns-then-code-eq-OP_FN c).After-is_array ∙ c.if-is_array.false, eq-eqb _ 16 (sym (code (goal.at.returns-then-code-eq-OP_FN c).Start) ∙ c.if-code-eq-OP_FN.true)) c.entries-then-code-eq-OP_FN.ensures
 
 pub returns : goal.returns
-returns c = let e = code c in rw (array c ∙ c.if-is_array.false, ne_eqb _ 16 (λ q. c.if-code-eq-OP_FN.false (e ∙ q))) (sym (add-zero _))
+returns c = let e = code (goal.at.returns c).Start in rw (array (goal.at.returns c).After-is_array ∙ c.if-is_array.false, ne_eqb _ 16 (λ q. c.if-code-eq-OP_FN.false (e ∙ q))) (sym (add-zero _))

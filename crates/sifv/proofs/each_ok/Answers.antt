@@ -18,7 +18,7 @@ loop-i-preserved c =
     let h = c.loop-i-test.true in
     let k = c.wide.ensures.0 ∙ sym (get_d_part c.s.now c.at 256 (16 + l.i) 0 (omega arith)) in
     let w = c.get_u64.ensures ∙ ap be_value (sym (part_part c.s.now c.at 256 (40 + l.i * 8) 8 (omega arith))) in
-    (omega arith, upto_turn (item_test (part c.s.now c.at 256)) l.i l.inv.1 (c.item_ok-ok.ensures ∙ ap₂ item_ok k w) refl)
+    (omega arith, upto_turn (item_test (part c.s.now c.at 256)) l.i l.invariant.1 (c.item_ok-ok.ensures ∙ ap₂ item_ok k w) refl)
 
 pub returns : goal.returns
 returns c =

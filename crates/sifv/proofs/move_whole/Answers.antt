@@ -17,7 +17,7 @@ move_u64-requires c = (omega arith, omega arith)
 pub loop-i-preserved : goal.loop-i-preserved
 loop-i-preserved c =
     let l = c.loop-i in
-    let t = move_turn c.args.s.now c.args.from c.args.to l.i c.requires.0 c.requires.1 c.requires.2 (omega arith) l.inv.3 c.move_u64.ensures in
+    let t = move_turn c.args.s.now c.args.from c.args.to l.i c.requires.0 c.requires.1 c.requires.2 (omega arith) l.invariant.3 c.move_u64.ensures in
     (omega arith, omega arith, t.1, t.0)
 
 pub shape_of-s : goal.shape_of-s

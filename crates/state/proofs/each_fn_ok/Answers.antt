@@ -6,8 +6,6 @@ use Rattle.state.specs.inner.Fields.{fn_test, fns_ok}
 use Rattle.state.specs.laws.Checks.{scan_turn, scan_end}
 use Rattle.state.proofs.each_fn_ok.Goals as goal
 
-unfolding fns_ok
-
 pub loop-x-init : goal.loop-x-init
 loop-x-init c = (omega arith, refl)
 
@@ -18,6 +16,7 @@ loop-x-preserved c =
     (omega arith, scan_turn (fn_test r.state.now r.n) l.x l.ok (leb c.get_u16.result r.n) l.invariant.1 (ap (λ (w : ℕ). leb w r.n) c.get_u16.ensures.0) refl)
 
 pub returns : goal.returns
+unfolding fns_ok
 returns c =
     let l = c.loop-x in
     let r = c.args in

@@ -7,8 +7,6 @@ use Rattle.state.specs.inner.Fields.{frame_ok, frame_test, frames_ok}
 use Rattle.state.specs.laws.Checks.{scan_turn, scan_end}
 use Rattle.state.proofs.each_frame_ok.Goals as goal
 
-unfolding frames_ok
-
 pub loop-i-init : goal.loop-i-init
 loop-i-init c = (omega arith, refl)
 
@@ -25,6 +23,7 @@ loop-i-preserved c =
     )
 
 pub returns : goal.returns
+unfolding frames_ok
 returns c =
     let l = c.loop-i in
     let r = c.args in

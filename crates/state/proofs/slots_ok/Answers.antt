@@ -5,8 +5,6 @@ use Rattle.state.specs.inner.Fields.{slot_test, slots_ok}
 use Rattle.state.specs.laws.Checks.{scan_turn, scan_end}
 use Rattle.state.proofs.slots_ok.Goals as goal
 
-unfolding slots_ok
-
 pub loop-i-init : goal.loop-i-init
 loop-i-init c = (omega arith, refl)
 
@@ -16,6 +14,7 @@ loop-i-preserved c =
     (omega arith, scan_turn (slot_test c.args.state.now) l.i l.ok c.slot_ok-ok.result l.invariant.1 c.slot_ok-ok.ensures refl)
 
 pub returns : goal.returns
+unfolding slots_ok
 returns c =
     let l = c.loop-i in
     let r = c.args in

@@ -5,8 +5,6 @@ use Rattle.state.specs.inner.Fields.{stack_test, stack_ok}
 use Rattle.state.specs.laws.Checks.{scan_turn, scan_end}
 use Rattle.state.proofs.stack_ok.Goals as goal
 
-unfolding stack_ok
-
 pub loop-i-init : goal.loop-i-init
 loop-i-init c = (omega arith, refl)
 
@@ -20,6 +18,7 @@ loop-i-preserved c =
     (omega arith, scan_turn (stack_test r.state.now r.depth) l.i l.ok c.place_ok-ok.result l.invariant.1 c.place_ok-ok.ensures refl)
 
 pub returns : goal.returns
+unfolding stack_ok
 returns c =
     let l = c.loop-i in
     let r = c.args in

@@ -10,28 +10,28 @@ pub loop-i-init : goal.loop-i-init
 loop-i-init c = (omega arith, refl, λ cs h. turned_start (functions_go 0) h)
 
 pub overflow_cast-name : goal.overflow_cast-name
-overflow_cast-name c = omega (arith, c.type_inv.program (16 * c.loop-i.i + 4))
+overflow_cast-name c = omega (arith, c.slice_known-in-loop-i-1.given (16 * c.loop-i.i + 4))
 
 pub overflow_mul-name-in-loop-i : goal.overflow_mul-name-in-loop-i
-overflow_mul-name-in-loop-i c = omega (arith, c.type_inv.program (16 * c.loop-i.i + 4))
+overflow_mul-name-in-loop-i c = omega (arith, c.slice_known-in-loop-i-1.given (16 * c.loop-i.i + 4))
 
 pub overflow_add-name-in-loop-i : goal.overflow_add-name-in-loop-i
-overflow_add-name-in-loop-i c = omega (arith, c.type_inv.program (16 * c.loop-i.i + 4))
+overflow_add-name-in-loop-i c = omega (arith, c.slice_known-in-loop-i-1.given (16 * c.loop-i.i + 4))
 
 pub enter-requires : goal.enter-requires
 enter-requires c =
     let l = c.loop-i in
-    (omega (arith, c.type_inv.program (16 * l.i + 4), c.requires.0.0, l.invariant.1), omega arith)
+    (omega (arith, c.slice_known-in-loop-i-1.given (16 * l.i + 4), c.requires.0.0, l.invariant.1), omega arith)
 
 pub loop-i-preserved : goal.loop-i-preserved
 loop-i-preserved c =
     let l = c.loop-i in
     let i = c.loop-i-test.true in
     let e = c.enter.ensures in
-    let x = c.type_inv.program (16 * l.i + 4) in (
+    let x = c.slice_known-in-loop-i-1.given (16 * l.i + 4) in (
       omega arith,
-      entered_length 34816 (get_or l.program (16 * l.i + 4) 0) l.i (eqb (get_or l.program (16 * l.i) 0) 16) l.program _ (omega (arith, x, c.requires.0.0, l.inv.1)) e ∙ l.inv.1,
-      λ cs h. functions_next (l.inv.2 cs h) i c.requires.0.1 (omega (arith, c.requires.0.0, l.inv.1)) e,
+      entered_length 34816 (get_or l.program (16 * l.i + 4) 0) l.i (eqb (get_or l.program (16 * l.i) 0) 16) l.program _ (omega (arith, x, c.requires.0.0, l.invariant.1)) e ∙ l.invariant.1,
+      λ cs h. functions_next (l.invariant.2 cs h) i c.requires.0.1 (omega (arith, c.requires.0.0, l.invariant.1)) e,
     )
 
 pub shape_of-program : goal.shape_of-program

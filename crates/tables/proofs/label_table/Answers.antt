@@ -1,6 +1,7 @@
 use native.Mathlib.Omega.{arith}
 use Rattle.tables.specs.laws.EntryLaws.{first, first_length, labels_begun, labels_whole, labels_none}
 use Rattle.tables.proofs.label_table.Goals as goal
+use Rattle.tables.proofs.label_table.Goals.{Start}
 
 pub labels-requires : goal.labels-requires
 labels-requires c =
@@ -21,5 +22,5 @@ returns-then-n-gt0 c cs r =
 
 pub returns : goal.returns
 returns c cs r =
-    let s = c in
+    let s = (goal.at.returns c).Start in
     labels_none cs s.args.n s.args.program.now (omega (arith, c.if-n-gt0.false)) s.requires.0.0 s.requires.0.2 r

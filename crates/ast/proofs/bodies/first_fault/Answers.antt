@@ -21,29 +21,29 @@ loop-i-init c = (omega arith, c.requires.1, refl)
 pub field_ok-requires : goal.field_ok-requires
 field_ok-requires c =
     let l = c.loop-i in
-    asked c.args.entries.now c.args.bodies.now l.i l.at l.inv.0 l.inv.1 (omega arith)
+    asked c.args.entries.now c.args.bodies.now l.i l.at l.invariant.0 l.invariant.1 (omega arith)
 
 pub returns-then-not-field_ok : goal.returns-then-not-field_ok
 returns-then-not-field_ok c =
     let l = c.loop-i in
     let a = c.args in
-    let p = at_place a.entries.now a.bodies.now l.i l.at l.inv.1 (omega arith) (omega arith) in
+    let p = at_place a.entries.now a.bodies.now l.i l.at l.invariant.1 (omega arith) (omega arith) in
     let e = rw (to_end l.at) at c.field_ok.ensures in
-    sym (l.inv.2 ∙ fault_field a.texts 0 p.nodes (sym e ∙ not-true c.field_ok.result c.if-not-field_ok.true))
+    sym (l.invariant.2 ∙ fault_field a.texts 0 p.nodes (sym e ∙ not-true c.field_ok.result c.if-not-field_ok.true))
 
 pub finite-requires : goal.finite-requires
 finite-requires c =
     let l = c.loop-i in
-    asked c.args.entries.now c.args.bodies.now l.i l.at l.inv.0 l.inv.1 (omega arith)
+    asked c.args.entries.now c.args.bodies.now l.i l.at l.invariant.0 l.invariant.1 (omega arith)
 
 pub returns-then-not-finite : goal.returns-then-not-finite
 returns-then-not-finite c =
     let l = c.loop-i in
     let a = c.args in
-    let p = at_place a.entries.now a.bodies.now l.i l.at l.inv.1 (omega arith) (omega arith) in
+    let p = at_place a.entries.now a.bodies.now l.i l.at l.invariant.1 (omega arith) (omega arith) in
     let e = rw (to_end l.at) at c.field_ok.ensures in
     let d = rw (to_end l.at) at c.finite.ensures in
-    sym (l.inv.2 ∙ fault_number a.texts 0 p.nodes (sym e ∙ not-false c.field_ok.result c.if-not-field_ok.false) (sym d ∙ not-true c.finite.result c.if-not-finite.true))
+    sym (l.invariant.2 ∙ fault_number a.texts 0 p.nodes (sym e ∙ not-false c.field_ok.result c.if-not-field_ok.false) (sym d ∙ not-true c.finite.result c.if-not-finite.true))
 
 pub overflow_add-at : goal.overflow_add-at
 overflow_add-at c =
@@ -54,11 +54,11 @@ pub loop-i-preserved : goal.loop-i-preserved
 loop-i-preserved c =
     let l = c.loop-i in
     let a = c.args in
-    let p = at_place a.entries.now a.bodies.now l.i l.at l.inv.1 (omega arith) (omega arith) in
+    let p = at_place a.entries.now a.bodies.now l.i l.at l.invariant.1 (omega arith) (omega arith) in
     let e = rw (to_end l.at) at c.field_ok.ensures in
     let d = rw (to_end l.at) at c.finite.ensures in
     let k = fault_later a.texts 0 p.nodes (sym e ∙ not-false c.field_ok.result c.if-not-field_ok.false) (sym d ∙ not-false c.finite.result c.if-not-finite.false) in
-    rw c.size-at.ensures.0 (p.inside, p.rest, l.inv.2 ∙ k)
+    rw c.size-at.ensures.0 (p.inside, p.rest, l.invariant.2 ∙ k)
 
 pub returns : goal.returns
 returns c =

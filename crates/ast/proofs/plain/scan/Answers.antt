@@ -39,7 +39,7 @@ loop-i-preserved c =
       omega arith,
       omega arith,
       rw (c.under-above.ensures, c.waits-left.ensures.0, c.allowed-ok.ensures, c.wide-count.ensures.0, c.wide-kind.ensures.0)
-          (turn l.ok _ _ l.inv.2 (scan_next c.args.entries.now l.i l.above l.left (omega arith))),
+          (turn l.ok _ _ l.invariant.2 (scan_next c.args.entries.now l.i l.above l.left (omega arith))),
     )
 
 pub returns : goal.returns

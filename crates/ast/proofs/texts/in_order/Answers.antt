@@ -63,7 +63,7 @@ loop-i-preserved c =
       omega arith,
       omega (arith, sum_next a.lengths.now l.i (omega arith)),
       rw (c.precedes-ok.ensures, part_end l.at)
-          (turn l.ok _ _ l.inv.3 (ascending_next _ a.lengths.now a.texts.now l.i l.at (omega arith))),
+          (turn l.ok _ _ l.invariant.3 (ascending_next _ a.lengths.now a.texts.now l.i l.at (omega arith))),
     )
 
 pub returns : goal.returns

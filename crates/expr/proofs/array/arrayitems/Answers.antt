@@ -28,7 +28,7 @@ nexts c ls h =
     let s = begun c in
     let a = s.args in
     let l = c.before.loop in
-    let more = c.loop-test.true in
+    let more = c.loop-i-test.true in
     next ls a.n a.contents.now a.bodies.now a.keep a.k a.out.now l.at l.i l.out
     (λ e. omega (arith, s.pre.0.2 e, l.invariant.1, more)) more l.invariant.2 (l.invariant.3 ls h)
 
@@ -46,23 +46,23 @@ pub overflow_add-kind : goal.overflow_add-kind
 overflow_add-kind c = omega (arith, (begun c).requires.0.0, c.loop-i-test.true)
 
 pub bounds-contents-i : goal.bounds-contents-i
-bounds-contents-i c = omega (arith, (item c).entry)
+bounds-contents-i c = omega (arith, (item (goal.at.bounds-contents-i c).In-loop-i).entry)
 
 pub val_from_primary-v-requires : goal.val_from_primary-v-requires
 val_from_primary-v-requires c =
-    let t = item c in
+    let t = item (goal.at.val_from_primary-v-requires c).In-loop-i in
     (t.num, t.text)
 
 pub overflow_add-k : goal.overflow_add-k
 overflow_add-k c =
-    let i = c in
+    let i = (goal.at.overflow_add-k c).In-loop-i in
     let p = (begun i).requires.0 in
-    omega (arith, p.0, p.1, i.loop-test.true)
+    omega (arith, p.0, p.1, i.loop-i-test.true)
 
 pub keep_item-requires : goal.keep_item-requires
 keep_item-requires c =
-    let i = c in
-    λ e. omega (arith, (begun i).requires.0.2 e, i.before.loop.invariant.1, i.loop-test.true)
+    let i = (goal.at.keep_item-requires c).In-loop-i in
+    λ e. omega (arith, (begun i).requires.0.2 e, i.before.loop.invariant.1, i.loop-i-test.true)
 
 pub overflow_add-at : goal.overflow_add-at
 overflow_add-at c =
@@ -72,21 +72,21 @@ overflow_add-at c =
 pub overflow_add-i : goal.overflow_add-i
 overflow_add-i c =
     let i : Inside = search in
-    omega (arith, (begun i).pre.0.0, i.loop-test.taken)
+    omega (arith, (begun i).pre.0.0, i.loop-i-test.taken)
 
 pub loop-i-smaller : goal.loop-i-smaller
 loop-i-smaller c =
     let i : Inside = search in
-    omega (arith, i.loop-test.taken)
+    omega (arith, i.loop-i-test.taken)
 
 pub loop-i-preserved : goal.loop-i-preserved
 loop-i-preserved c =
     let kept = c.keep_item in
     let i : Inside = search in
     let l = i.before.loop in
-    let more = i.loop-test.taken in (
+    let more = i.loop-i-test.taken in (
       omega (arith, more),
-      omega (arith, kept.auto, l.inv.1),
+      omega (arith, kept.auto, l.invariant.1),
       omega (arith, (item i).entry),
       λ ls h. rw c.lit_size-at.ensures ((nexts i ls h).more _ _ c.val_from_primary-v.ensures kept.ensures),
     )

@@ -21,7 +21,7 @@ loop-j-preserved c =
     let a = c.args in
     let l = c.loop-j in
     let e : l.j - 1 + 1 ≡ l.j = omega arith in
-    let q = open_turn a.s.now a.at (l.j - 1) a.n c.requires.0 c.requires.2 (omega arith) (l.inv.3 ∙ ap (λ (k : ℕ). splice a.s.now a.at (opened (part a.s.now a.at 256) k a.n)) (sym e)) l.inv.2 c.move_u64.ensures refl refl in
+    let q = open_turn a.s.now a.at (l.j - 1) a.n c.requires.0 c.requires.2 (omega arith) (l.invariant.3 ∙ ap (λ (k : ℕ). splice a.s.now a.at (opened (part a.s.now a.at 256) k a.n)) (sym e)) l.invariant.2 c.move_u64.ensures refl refl in
     (omega arith, omega arith, open_length a.s.now a.at (l.j - 1) a.n c.requires.0 c.requires.2 (omega arith) q, q)
 
 pub shape_of-s : goal.shape_of-s

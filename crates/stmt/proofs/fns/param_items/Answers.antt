@@ -17,8 +17,8 @@ loop-i-preserved c =
     let x = c.wide in
     let e = c.put_item.ensures.0 in (
       omega arith,
-      item_length_lem l.out (a.k + l.i) (Str x.result) (omega arith) e ∙ l.inv.1,
-      items_turn l.out a.k l.i a.names.now (omega arith) (omega arith) x.ensures.0 e ∙ l.inv.2,
+      item_length_lem l.out (a.k + l.i) (Str x.result) (omega arith) e ∙ l.invariant.1,
+      items_turn l.out a.k l.i a.names.now (omega arith) (omega arith) x.ensures.0 e ∙ l.invariant.2,
     )
 
 pub shape_of-out : goal.shape_of-out

@@ -31,8 +31,8 @@ pub loop-more-preserved : goal.loop-more-preserved
 loop-more-preserved c =
     let l = c.loop-more in
     let n = length c.args.names.now in
-    let e : n - l.more + 1 ≡ n - (l.more - 1) = omega (arith, l.inv.0) in
-    (omega (arith, l.inv.0), search rules, pop_ready l.inv.2 c.pop-q.ensures, rw (← e) (pops_turn c.low-r.result _ l.inv.3 (omega (arith, l.inv.0)) c.low-r.ensures refl c.pop-q.ensures))
+    let e : n - l.more + 1 ≡ n - (l.more - 1) = omega (arith, l.invariant.0) in
+    (omega (arith, l.invariant.0), search rules, pop_ready l.invariant.2 c.pop-q.ensures, rw (← e) (pops_turn c.low-r.result _ l.invariant.3 (omega (arith, l.invariant.0)) c.low-r.ensures refl c.pop-q.ensures))
 
 pub shape_of-out : goal.shape_of-out
 shape_of-out c = c.loop-more.invariant.1
