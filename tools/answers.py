@@ -13,7 +13,7 @@ import sys
 SKIP = re.compile(r"^\(λ c( κs)?\. (search (rules|needs)|omega arith)\)$")
 CHAIN = re.compile(r"(?<![\w.'-])([A-Za-z_][\w']*)((?:\.[A-Za-z0-9_][\w'-]*)+)")
 TOKEN = re.compile(r"[^\s(){}.;,:@\"«»\[\]`]+")
-ROOT = {"args", "requires", "pre", "ranges", "lifetimes", "well_formed", "well-formed"}
+ROOT = {"args", "requires", "pre", "good", "ranges", "lifetimes", "well_formed", "well-formed"}
 
 
 def flat(s):
@@ -156,7 +156,7 @@ class Turn:
             return f"(goal.at.{self.goal} {var}).{self.n.places[p]['new']}"
         f = rest[0]
         if f in ROOT:
-            f = {"pre": "requires", "well-formed": "well_formed"}.get(f, f)
+            f = {"pre": "requires", "well-formed": "well_formed", "good": "well_formed"}.get(f, f)
             return ".".join([var, f] + rest[1:])
         q = self.n.step(p, f) or self.n.step(place, f)
         if not q:
@@ -287,10 +287,10 @@ def turn(crate, folder, names, path):
     needed = []
     for x in order:
         if x not in used:
-            m = re.match(r"(?:[^\n]*?) : \((\w+) : tie\.([\w-]+)", "\n".join(decls[x]["lines"]))
+            m = re.match(r"(?:[^\n]*?) : (?:\(\w+ : )?tie\.([\w-]+)", "\n".join(decls[x]["lines"]))
             if m:
-                pl = n.places.get(flat(m[2]))
-                t.helpers[x] = pl["new"] if pl else m[2]
+                pl = n.places.get(flat(m[1]))
+                t.helpers[x] = pl["new"] if pl else m[1]
     for i, (old, new) in enumerate(n.needs):
         a = args[2 * k + i]
         place = n.asked[i]
@@ -335,6 +335,10 @@ def turn(crate, folder, names, path):
             continue
         ls = "\n".join(decls[x]["lines"])
         m = re.search(r"\((\w+) : tie\.([\w-]+)", ls)
+        if not m:
+            m2 = re.match(r"[^\n]*? : tie\.([\w-]+)(?: [a-z][\w-]*-[\w-]+)* →", ls)
+            m3 = m2 and re.search(rf"(?m)^{re.escape(x)} (\w+)", ls)
+            m = m3 and [None, m3[1], m2[1]]
 
         def typ(m2):
             pl = n.places.get(flat(m2[1]))

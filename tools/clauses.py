@@ -48,8 +48,14 @@ def main(argv):
             print(f"left: {path}:{line}: {name}")
             continue
         e = last + 1
-        while e < len(ls) and ls[e].strip() and (len(ls[e]) - len(ls[e].lstrip()) > len(ind) or ls[e].strip().startswith(")")):
-            e += 1
+        k = e
+        while k < len(ls):
+            if ls[k].strip():
+                if len(ls[k]) - len(ls[k].lstrip()) > len(ind) or ls[k].strip().startswith(")"):
+                    e = k + 1
+                else:
+                    break
+            k += 1
         ls[e:e] = [ind + c for c in cl]
         open(path, "w", encoding="utf-8").write("\n".join(ls))
         print(f"{path}:{e + 1}: {name}: {len(cl)} clauses")

@@ -132,14 +132,14 @@ other_value (fin false m e) (fin false k d) n v t h q = rw (ne_eqb (k * up d % d
   where
     cut_is : n ≡ k * up d / down d
     cut_is = omega (arith, t)
-other_value nan x n v t h q = elim v [ ]
-other_value (inf _) x n v t h q = elim v [ ]
 
     yes : k * up d % down d ≡ 0 → (eqb (m * up e * down d) (k * up d * down e) && true) ≡ true
     yes z =
         let w : k * up d ≡ n * down d = sym (div-add-mod' (k * up d) (down d)) ∙ ap₂ (λ (a b : ℕ). a * down d + b) (sym cut_is) z ∙ omega arith in
         let u : m * up e * down d ≡ k * up d * down e = ap (λ (y : ℕ). y * down d) (sym (mul-one (m * up e)) ∙ v.1) ∙ mul_right_comm n (down e) (down d) ∙ ap (λ (y : ℕ). y * down e) (sym w) in
         rw (eq-eqb (m * up e * down d) (k * up d * down e) u)
+other_value nan x n v t h q = elim v [ ]
+other_value (inf _) x n v t h q = elim v [ ]
 
 pub index_other : (x : Float) (n : ℕ) → n ≡ to_unsigned 64 x → n ≤ 2 ^ 53 → eq (whole n) x ≡ false → index_of x ≡ none
 index_other x n t h q = other_value (whole n) x n (whole_value n h) t h q

@@ -11,7 +11,7 @@ loop-i-init c =
 
 pub overflow_mul-i : goal.overflow_mul-i
 overflow_mul-i c =
-    record { fits = omega (arith, c.good, c.loop-i-test.true) }
+    record { fits = omega (arith, c.well_formed, c.loop-i-test.true) }
 
 pub call_next-last-requires : goal.call_next-last-requires
 call_next-last-requires c = omega (arith, c.loop-i-test.true)

@@ -20,7 +20,7 @@ small c = subst (λ (n : ℕ). n ≤ 2 ^ 53) (sym c.truncating_f64_to_u64-whole.
 
 pub truncating_f64_to_u64-whole-requires : goal.truncating_f64_to_u64-whole-requires
 unfolding of_bits neg
-truncating_f64_to_u64-whole-requires c = (yes c.if-x.true, lt_more c.args.x (yes c.if-x-2.true))
+truncating_f64_to_u64-whole-requires c = record { lower_bound = yes c.if-x.true; upper_bound = lt_more c.args.x (yes c.if-x-2.true) }
 
 pub int_to_float-whole : goal.int_to_float-whole
 unfolding in_float
@@ -34,7 +34,7 @@ returns-then-x-2 c = sym (ap or_max (index_other c.args.x c.truncating_f64_to_u6
 
 pub truncating_f64_to_u64-requires : goal.truncating_f64_to_u64-requires
 unfolding of_bits neg
-truncating_f64_to_u64-requires c = (yes c.if-x.true, yes c.if-x-3.true)
+truncating_f64_to_u64-requires c = record { lower_bound = yes c.if-x.true; upper_bound = yes c.if-x-3.true }
 
 pub returns-then-x-3 : goal.returns-then-x-3
 unfolding of_bits neg

@@ -32,8 +32,9 @@ overflow_sub-s c = let w = whole (goal.at.overflow_sub-s c).Start in omega arith
 
 pub product-requires : goal.product-requires
 product-requires c =
+    let s = (goal.at.product-requires c).Start in
     let p : 0 < c.args.n = omega (arith, c.requires.1) in
-    (c.power-x.ensures.1, omega (arith, c.requires.2, c.reduced-y.ensures, mod-lt (c.args.m * 2 ^ (c.args.s - e c / 2 ^ k c * 2 ^ k c % 18446744073709551616)) p), c.reciprocal_of-v.ensures)
+    (c.power-x.ensures.1, omega (arith, c.requires.2, c.reduced-y.ensures, mod-lt (c.args.m * 2 ^ (c.args.s - e s / 2 ^ k s * 2 ^ k s % 18446744073709551616)) p), c.reciprocal_of-v.ensures)
 
 pub returns : goal.returns
 returns c =

@@ -6,7 +6,7 @@ use Rattle.numeric.proofs.index_of.Goals as goal
 
 pub returns-then-n : goal.returns-then-n
 returns-then-n c =
-    sym (ap index_told (max_none c.args.x (subst T (sym c.good.0.1) tt) c.index_or_max-n.ensures c.if-n.true))
+    sym (ap index_told (max_none c.args.x (subst T (sym c.well_formed.0.1) tt) c.index_or_max-n.ensures c.if-n.true))
 
 pub returns : goal.returns
 returns c =

@@ -9,13 +9,13 @@ use Rattle.numeric.proofs.modu.Goals.{After-bits_of-y}
 
 -- where both patterns are known
 abbrev x : After-bits_of-y → ℕ
-x c = c.before.bits_of.result
+x c = c.bits_of-x.result
 
 abbrev y : After-bits_of-y → ℕ
-y c = c.bits-of2.result
+y c = c.bits_of-y.result
 
 abbrev Answer : After-bits_of-y → Float → Type 0
-Answer c r = (r ≡ modu c.before.before.args.a c.before.before.args.b) × Remainder c.before.before.args.a c.before.before.args.b r
+Answer c r = (r ≡ modu c.args.a c.args.b) × Remainder c.args.a c.args.b r
 
 answer : (c : After-bits_of-y) (r : Float) → Remainder (of_bits binary64 (x c)) (of_bits binary64 (y c)) r → Answer c r
 answer c r h = both c.args.a c.args.b r (x c) (y c) c.bits_of-x.ensures.1 c.bits_of-y.ensures.1 h
@@ -42,7 +42,7 @@ returns-then-q-eq0 c =
 pub returns-then-p-q : goal.returns-then-p-q
 returns-then-p-q c =
     let k = (goal.at.returns-then-p-q c).After-bits_of-y in
-    subst (Answer k) k.before.bits_of.ensures.1 (answer k (of_bits binary64 (x k)) (smaller (x k) (y k) c.if-p-q.true (omega arith)))
+    subst (Answer k) k.bits_of-x.ensures.1 (answer k (of_bits binary64 (x k)) (smaller (x k) (y k) c.if-p-q.true (omega arith)))
 
 pub returns : goal.returns
 returns c =

@@ -73,7 +73,7 @@ pops-d-requires c =
 pub overflow_mul-count : goal.overflow_mul-count
 overflow_mul-count c =
     let r = fn_room (is_a_fn c.args.lbl c.requires.1 c.requires.0) in
-    omega (arith, r.0, r.1, c.good.0.0)
+    omega (arith, r.0, r.1, c.well_formed.0.0)
 
 pub returns : goal.returns
 returns c =

@@ -22,7 +22,7 @@ source-r-requires c =
 pub moved-requires : goal.moved-requires
 moved-requires c =
     let q = at_within sources c.args.contents.now c.args.bodies.now c.args.p c.requires c.source-r.ensures in
-    (omega (arith, q.0, c.good.0.0), omega (arith, q.1, c.good.1.0.0))
+    (omega (arith, q.0, c.well_formed.0.0), omega (arith, q.1, c.well_formed.1.0.0))
 
 pub returns : goal.returns
 returns c =
