@@ -81,6 +81,18 @@ class Names:
         self.needs = j["needs"]
         self.asked = [flat(a[0]) for a in j["asked_at"]]
         self.loops = j["loops"]
+        self.arms = {flat(p[0]): a for p, a in zip(j["places"], j["arms"])}
+
+    def arm(self, p, f, tail):
+        """The new form of a step's fields that are an arm's."""
+        best = None
+        while p:
+            a = self.arms.get(p)
+            for new, old, path in (a[2] if a else []):
+                if flat(old).lower() == flat(f).lower() and tail[: len(path)] == path and (best is None or len(path) > best[2]):
+                    best = (a[0], new, len(path))
+            p = self.places[p]["parent"]
+        return best
 
     def up(self, p, n):
         for _ in range(n):
@@ -117,18 +129,17 @@ class Turn:
     def member(self, q, rest):
         """The fields behind a step, in the new form."""
         out = list(rest)
-        if out and out[0] in ("last", "new") and len(out) > 1 and out[1].isdigit() and q["callee"]:
-            muts = MUTS.get(q["callee"])
-            if muts is None:
-                muts = self.n.j["params"].get(q["callee"], [])
-            i = int(out[1])
-            out[0] = "new"
-            if i < len(muts):
-                out[1] = muts[i]
-            else:
-                self.said.append(f"new.{i} of {q['callee']}")
-        elif out and out[0] == "last":
-            out[0] = "new"
+        if out and out[0] in ("last", "new", "auto", "kept"):
+            out[0] = {"last": "new", "kept": "auto"}.get(out[0], out[0])
+            k = 0
+            while k + 1 < len(out) and out[k + 1] == "1":
+                k += 1
+            if k + 1 < len(out) and out[k + 1] == "0" and q["callee"]:
+                ps = self.n.j["params"].get(q["callee"], [])
+                if k < len(ps):
+                    out[1 : k + 2] = [ps[k]]
+                else:
+                    self.said.append(f"parameter {k} of {q['callee']}")
         if out and out[0] == "inv":
             out[0] = "invariant"
         if out and out[0] == "taken":
@@ -157,12 +168,18 @@ class Turn:
         f = rest[0]
         if f in ROOT:
             f = {"pre": "requires", "well-formed": "well_formed", "good": "well_formed"}.get(f, f)
+            pre = self.n.j.get("pre")
+            if f == "requires" and pre and len(rest) > 1 and rest[1].isdigit() and int(rest[1]) < len(pre["fields"]):
+                rest = [rest[0], pre["fields"][int(rest[1])]] + rest[2:]
             return ".".join([var, f] + rest[1:])
         q = self.n.step(p, f) or self.n.step(place, f)
         if not q:
             self.said.append(f"no step {f} at {p}: {head}.{'.'.join(fields)}")
             return ".".join([var] + [flat(x) for x in rest])
         tail = rest[1:]
+        a = self.n.arm(place, f, tail)
+        if a:
+            return ".".join([var, a[0], a[1]] + tail[a[2] :])
         if tail[:1] == ["given"]:
             for pl, t in self.n.typed.items():
                 for v, s in t:
@@ -178,6 +195,7 @@ class Turn:
             vars_[m[1]] = flat(m[2])
             return ""
 
+        text = re.sub(r"let (\w+) = \1\.args in(.*)", lambda m: f"let {m[1]}_args = {m[1]}.args in" + re.sub(rf"(?<![\w.'-]){m[1]}(?![\w'-])", m[1] + "_args", m[2]), text, flags=re.S)
         text = re.sub(r"let ([\w']+) : tie\.([\w-]+)(?: [a-z][\w-]*-[\w-]+)* = \(?search\)? in\s*", let, text)
 
         def one(m):

@@ -1,3 +1,5 @@
+use mathlib.Core.Path.{ap}
+use mathlib.Core.Bool.{not}
 use Rattle.ast.proofs.Order.{refuses, passes}
 use Rattle.ast.proofs.Faults.{fault_told, no_fault}
 use Rattle.ast.proofs.Rooms.{to_end}
@@ -10,17 +12,17 @@ use mathlib.Core.Path.{refl, sym, ◌∙◌}
 use Rattle.ast.proofs.read_bodies.Goals as goal
 
 pub returns-then-not-texts_ok : goal.returns-then-not-texts_ok
-returns-then-not-texts_ok c = refuses _ 3 _ (sym c.texts_ok.ensures ∙ not-true c.texts_ok.result c.if-not-texts_ok.true)
+returns-then-not-texts_ok c = refuses _ 3 _ (sym c.texts_ok.ensures ∙ not-true c.texts_ok.result (ap not c.if-not-texts_ok.true))
 
 pub first_fault-fault-requires : goal.first_fault-fault-requires
 first_fault-fault-requires c =
-    (c.requires.0.3, rw (to_end c.args.total c.args.bodies.now) c.requires.1.2)
+    (c.requires.count_bound.3, rw (to_end c.args.total c.args.bodies.now) c.requires.total_value.2)
 
 pub returns-then-fault-ne0 : goal.returns-then-fault-ne0
 returns-then-fault-ne0 c =
     let a = c.args in
-    let e = rw (to_end a.total a.bodies.now, c.requires.1.0) at c.first_fault-fault.ensures in
-    passes _ 3 _ (sym c.texts_ok.ensures ∙ not-false c.texts_ok.result c.if-not-texts_ok.false)
+    let e = rw (to_end a.total a.bodies.now, c.requires.total_value.0) at c.first_fault-fault.ensures in
+    passes _ 3 _ (sym c.texts_ok.ensures ∙ not-false c.texts_ok.result (ap not c.if-not-texts_ok.false))
     (e ∙ fault_told a.count (nodes_from a.entries.now (drop (sum a.lengths.now) a.bodies.now)) _ (λ z. c.if-fault-ne0.true (e ∙ z)))
 
 pub structure_ok-requires : goal.structure_ok-requires
@@ -29,23 +31,23 @@ structure_ok-requires c =
     let b = a.bodies.now in
     record {
       texts = a.count;
-      few = c.requires.0.0;
-      room = rw (to_end a.total b) c.requires.1.2;
+      few = c.requires.count_bound.0;
+      room = rw (to_end a.total b) c.requires.total_value.2;
       fields = (no_fault a.count (nodes_from a.entries.now (take (length b - a.total) (drop a.total b))) 0 (sym c.first_fault-fault.ensures ∙ c.if-fault-ne0.false)).0;
     }
 
 pub returns-then-not-structure_ok : goal.returns-then-not-structure_ok
 returns-then-not-structure_ok c =
     let a = c.args in
-    let e = rw (to_end a.total a.bodies.now, c.requires.1.0) at c.first_fault-fault.ensures in
-    let g = rw (to_end a.total a.bodies.now, c.requires.1.0) at c.structure_ok.ensures in
-    passes _ 3 _ (sym c.texts_ok.ensures ∙ not-false c.texts_ok.result c.if-not-texts_ok.false)
-    (refuses _ 4 _ (sym g ∙ not-true c.structure_ok.result c.if-not-structure_ok.true) ∙ (no_fault a.count (nodes_from a.entries.now (drop (sum a.lengths.now) a.bodies.now)) _ (sym e ∙ c.if-fault-ne0.false)).1)
+    let e = rw (to_end a.total a.bodies.now, c.requires.total_value.0) at c.first_fault-fault.ensures in
+    let g = rw (to_end a.total a.bodies.now, c.requires.total_value.0) at c.structure_ok.ensures in
+    passes _ 3 _ (sym c.texts_ok.ensures ∙ not-false c.texts_ok.result (ap not c.if-not-texts_ok.false))
+    (refuses _ 4 _ (sym g ∙ not-true c.structure_ok.result (ap not c.if-not-structure_ok.true)) ∙ (no_fault a.count (nodes_from a.entries.now (drop (sum a.lengths.now) a.bodies.now)) _ (sym e ∙ c.if-fault-ne0.false)).1)
 
 pub returns : goal.returns
 returns c =
     let a = c.args in
-    let e = rw (to_end a.total a.bodies.now, c.requires.1.0) at c.first_fault-fault.ensures in
-    let g = rw (to_end a.total a.bodies.now, c.requires.1.0) at c.structure_ok.ensures in
-    passes _ 3 _ (sym c.texts_ok.ensures ∙ not-false c.texts_ok.result c.if-not-texts_ok.false)
-    (passes _ 4 0 (sym g ∙ not-false c.structure_ok.result c.if-not-structure_ok.false) refl ∙ (no_fault a.count (nodes_from a.entries.now (drop (sum a.lengths.now) a.bodies.now)) _ (sym e ∙ c.if-fault-ne0.false)).1)
+    let e = rw (to_end a.total a.bodies.now, c.requires.total_value.0) at c.first_fault-fault.ensures in
+    let g = rw (to_end a.total a.bodies.now, c.requires.total_value.0) at c.structure_ok.ensures in
+    passes _ 3 _ (sym c.texts_ok.ensures ∙ not-false c.texts_ok.result (ap not c.if-not-texts_ok.false))
+    (passes _ 4 0 (sym g ∙ not-false c.structure_ok.result (ap not c.if-not-structure_ok.false)) refl ∙ (no_fault a.count (nodes_from a.entries.now (drop (sum a.lengths.now) a.bodies.now)) _ (sym e ∙ c.if-fault-ne0.false)).1)

@@ -1,3 +1,5 @@
+use mathlib.Core.Path.{ap}
+use mathlib.Core.Bool.{not}
 use mathlib.Core.Path.{◌≡◌, sym, ◌∙◌}
 use mathlib.Core.Bool.{true}
 use native.Mathlib.Omega.{arith}
@@ -12,10 +14,10 @@ use Rattle.bound.proofs.bound.Goals.{Else-not-plain}
 
 -- the rest is done only for a plain file
 is_plain : (k : Else-not-plain) → plain_of (read_tree k.args.file.now) ≡ true
-is_plain k = sym k.plain.ensures ∙ not-false k.plain.result k.if-not-plain.false
+is_plain k = sym k.plain.ensures ∙ not-false k.plain.result (ap not k.if-not-plain.false)
 
 pub returns-then-not-plain : goal.returns-then-not-plain
-returns-then-not-plain c = not_plain_lem (read_tree c.args.file.now) (sym c.plain.ensures ∙ not-true c.plain.result c.if-not-plain.true)
+returns-then-not-plain c = not_plain_lem (read_tree c.args.file.now) (sym c.plain.ensures ∙ not-true c.plain.result (ap not c.if-not-plain.true))
 
 pub bounds-file-2 : goal.bounds-file-2
 bounds-file-2 c = file_long _ (is_plain (goal.at.bounds-file-2 c).Else-not-plain)

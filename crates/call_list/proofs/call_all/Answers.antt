@@ -19,7 +19,7 @@ call_next-last-requires c = omega (arith, c.loop-i-test.true)
 pub loop-i-preserved : goal.loop-i-preserved
 loop-i-preserved c =
     let l = c.loop-i in
-    (c.call_next-last.auto.1.0 ∙ l.invariant.0, going_next c.args.program.now c.args.calls.now c.args.state.now (length c.args.calls.now / 16) l.i l.state l.last l.invariant.1 c.loop-i-test.true c.call_next-last.ensures)
+    (c.call_next-last.auto.state ∙ l.invariant.0, going_next c.args.program.now c.args.calls.now c.args.state.now (length c.args.calls.now / 16) l.i l.state l.last l.invariant.1 c.loop-i-test.true c.call_next-last.ensures)
 
 pub shape_of-state : goal.shape_of-state
 shape_of-state c = c.loop-i.invariant.0

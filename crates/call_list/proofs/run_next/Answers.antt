@@ -13,7 +13,7 @@ returns-then-steps-eq0 c =
 pub told-requires : goal.told-requires
 told-requires c =
     let h = run_reported c.args.program.now c.args.state.now c.args.steps c.args.out.now c.run-n.ensures c.if-n-ne0.false in
-    omega (arith, h, c.run-n.kept.1.1.1.0)
+    omega (arith, h, c.run-n.auto.report)
 
 pub returns : goal.returns
 returns c =

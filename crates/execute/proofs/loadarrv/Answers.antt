@@ -30,8 +30,8 @@ number_at-requires c =
 
 pub returns-in-At : goal.returns-in-At
 returns-in-At c =
-    loadarrv_at (names_of c.args.state.now) c.args.name (regs_of c.args.state.now c.args.idx) (number_in (goal.at.returns-in-At c).After-number_at) (told_at _ c.index_of.ensures c.i-1.given.1) c.item.ensures
+    loadarrv_at (names_of c.args.state.now) c.args.name (regs_of c.args.state.now c.args.idx) (number_in (goal.at.returns-in-At c).After-number_at) (told_at _ c.index_of.ensures c.in-At.is) c.item.ensures
 
 pub returns-in-None : goal.returns-in-None
 returns-in-None c =
-    loadarrv_at (names_of c.args.state.now) c.args.name (regs_of c.args.state.now c.args.idx) (number_in (goal.at.returns-in-None c).After-number_at) (told_none _ c.index_of.ensures c.enum_told-1.given.1) (err (ap got.Err c.no_index.ensures))
+    loadarrv_at (names_of c.args.state.now) c.args.name (regs_of c.args.state.now c.args.idx) (number_in (goal.at.returns-in-None c).After-number_at) (told_none _ c.index_of.ensures c.in-None.is) (err (ap got.Err c.no_index.ensures))

@@ -16,7 +16,7 @@ put-requires c =
 
 pub returns-in-Ok : goal.returns-in-Ok
 returns-in-Ok c =
-    fine c.got-1.given.1 (ap step.Goes c.on.ensures) (c.put.ensures ∙ ap (λ (i : ℕ). splice c.args.state.now i (head_bytes c.got-1.given.0.0.kind 0 c.got-1.given.0.0.word ++ zeros 240)) c.reg.ensures)
+    fine c.in-Ok.is (ap step.Goes c.on.ensures) (c.put.ensures ∙ ap (λ (i : ℕ). splice c.args.state.now i (head_bytes c.in-Ok.v.kind 0 c.in-Ok.v.word ++ zeros 240)) c.reg.ensures)
 
 pub returns-in-Err : goal.returns-in-Err
-returns-in-Err c = fail c.got-in-Err-1.given.1 refl refl
+returns-in-Err c = fail c.in-Err.is refl refl

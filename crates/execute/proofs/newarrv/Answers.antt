@@ -52,9 +52,9 @@ update-requires c =
 pub returns-in-At : goal.returns-in-At
 returns-in-At c =
     let s = start (goal.at.returns-in-At c).After-number_at in
-    newarrv_at s.args.state.now s.args.name (regs_of s.args.state.now s.args.idx) (regs_of s.args.state.now s.args.val) (number_in (goal.at.returns-in-At c).After-number_at) (told_at _ c.index_of.ensures c.i-1.given.1) c.update.ensures
+    newarrv_at s.args.state.now s.args.name (regs_of s.args.state.now s.args.idx) (regs_of s.args.state.now s.args.val) (number_in (goal.at.returns-in-At c).After-number_at) (told_at _ c.index_of.ensures c.in-At.is) c.update.ensures
 
 pub returns-in-None : goal.returns-in-None
 returns-in-None c =
     let s = start (goal.at.returns-in-None c).After-number_at in
-    newarrv_no_index s.args.state.now s.args.name (regs_of s.args.state.now s.args.idx) (regs_of s.args.state.now s.args.val) (number_in (goal.at.returns-in-None c).After-number_at) (told_none _ c.index_of.ensures c.enum_told-1.given.1) (value_in (goal.at.returns-in-None c).Else-kind_at-eq0) (ap did.Err c.no_index.ensures) refl
+    newarrv_no_index s.args.state.now s.args.name (regs_of s.args.state.now s.args.idx) (regs_of s.args.state.now s.args.val) (number_in (goal.at.returns-in-None c).After-number_at) (told_none _ c.index_of.ensures c.in-None.is) (value_in (goal.at.returns-in-None c).Else-kind_at-eq0) (ap did.Err c.no_index.ensures) refl

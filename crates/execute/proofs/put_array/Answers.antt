@@ -12,7 +12,7 @@ zero-requires c = c.requires.1
 
 pub bounds-state-at : goal.bounds-state-at
 bounds-state-at c =
-    omega (arith, c.zero.auto.0, c.requires.1)
+    omega (arith, c.zero.auto.d, c.requires.1)
 
 pub overflow_cast-state : goal.overflow_cast-state
 overflow_cast-state c =
@@ -20,7 +20,7 @@ overflow_cast-state c =
 
 pub bounds-state-at-2 : goal.bounds-state-at-2
 bounds-state-at-2 c =
-    simp length-set (omega (arith, c.zero.auto.0, c.requires.1))
+    simp length-set (omega (arith, c.zero.auto.d, c.requires.1))
 
 pub loop-i-init : goal.loop-i-init
 loop-i-init c =

@@ -14,7 +14,7 @@ pub put_u64-requires : goal.put_u64-requires
 put_u64-requires c = simp length-set (omega arith)
 
 pub shape_of-state : goal.shape_of-state
-shape_of-state c = c.put_u64.auto.0 ∙ simp length-set
+shape_of-state c = c.put_u64.auto.d ∙ simp length-set
 
 pub returns : goal.returns
 returns c =

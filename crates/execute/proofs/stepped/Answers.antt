@@ -8,7 +8,7 @@ pub enum_told-1 : goal.enum_told-1
 enum_told-1 c = search rules
 
 pub returns-in-Ok : goal.returns-in-Ok
-returns-in-Ok c = rw c.enum_told-1.given.1 (ap step.Goes c.on.ensures)
+returns-in-Ok c = rw c.in-Ok.is (ap step.Goes c.on.ensures)
 
 pub returns-in-Err : goal.returns-in-Err
-returns-in-Err c = rw c.did-1.given.1
+returns-in-Err c = rw c.in-Err.is

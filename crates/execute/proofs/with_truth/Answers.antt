@@ -9,22 +9,22 @@ pub enum_told-1 : goal.enum_told-1
 enum_told-1 c = search rules
 
 pub returns-in-Empty : goal.returns-in-Empty
-returns-in-Empty c = rw c.enum_told-1.given.1 (err (ap got.Err c.reg_no_contents.ensures))
+returns-in-Empty c = rw c.in-Empty.is (err (ap got.Err c.reg_no_contents.ensures))
 
 pub returns-in-Num : goal.returns-in-Num
-returns-in-Num c = rw c.enum_told-in-Num-1.given.1 (err (ap got.Err c.ty_mismatch.ensures))
+returns-in-Num c = rw c.in-Num.is (err (ap got.Err c.ty_mismatch.ensures))
 
 pub returns-in-Str : goal.returns-in-Str
-returns-in-Str c = rw c.enum_told-in-Str-1.given.1 (err (ap got.Err c.ty_mismatch-in-Str.ensures))
+returns-in-Str c = rw c.in-Str.is (err (ap got.Err c.ty_mismatch-in-Str.ensures))
 
 pub returns-in-Bl : goal.returns-in-Bl
-returns-in-Bl c = rw c.w-1.given.1 c.truths.ensures
+returns-in-Bl c = rw c.in-Bl.is c.truths.ensures
 
 pub returns-in-Null : goal.returns-in-Null
-returns-in-Null c = rw c.enum_told-in-Null-1.given.1 (err (ap got.Err c.ty_mismatch-in-Null.ensures))
+returns-in-Null c = rw c.in-Null.is (err (ap got.Err c.ty_mismatch-in-Null.ensures))
 
 pub returns-in-Arr : goal.returns-in-Arr
-returns-in-Arr c = rw c.enum_told-in-Arr-1.given.1 (err (ap got.Err c.ty_mismatch-in-Arr.ensures))
+returns-in-Arr c = rw c.in-Arr.is (err (ap got.Err c.ty_mismatch-in-Arr.ensures))
 
 pub returns-in-Tab : goal.returns-in-Tab
-returns-in-Tab c = rw c.enum_told-in-Tab-1.given.1 (err (ap got.Err c.ty_mismatch-in-Tab.ensures))
+returns-in-Tab c = rw c.in-Tab.is (err (ap got.Err c.ty_mismatch-in-Tab.ensures))

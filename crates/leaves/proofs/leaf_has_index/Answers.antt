@@ -6,7 +6,7 @@ use Rattle.numeric.specs.inner.OrMax.{has_index}
 use Rattle.leaves.proofs.leaf_has_index.Goals as goal
 
 pub returns-in-At : goal.returns-in-At
-returns-in-At c = sym (ap has_index (told_at (index_of c.args.x) c.index_of.ensures c.n-1.given.1))
+returns-in-At c = sym (ap has_index (told_at (index_of c.args.x) c.index_of.ensures c.in-At.is))
 
 pub returns-in-None : goal.returns-in-None
-returns-in-None c = sym (ap has_index (told_none (index_of c.args.x) c.index_of.ensures c.enum_told-1.given.1))
+returns-in-None c = sym (ap has_index (told_none (index_of c.args.x) c.index_of.ensures c.in-None.is))

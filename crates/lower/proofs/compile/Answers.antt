@@ -10,9 +10,9 @@ returns-then-declares c = c.compile_both.ensures
 
 pub lower_tree-c-requires : goal.lower_tree-c-requires
 lower_tree-c-requires c =
-    let t = c.requires.0.0 in
-    let sp = c.requires.0.1 in
-    (one_ready t c.requires.1.0 c.args.program.now sp.within sp.few c.requires.1.1, (t, sp.within, sp.few, sp.contents, sp.parts, sp.numbers))
+    let t = c.requires.spelt.0 in
+    let sp = c.requires.spelt.1 in
+    (one_ready t c.requires.by_index.0 c.args.program.now sp.within sp.few c.requires.by_index.1, (t, sp.within, sp.few, sp.contents, sp.parts, sp.numbers))
 
 pub returns-then-c-ne0 : goal.returns-then-c-ne0
 returns-then-c-ne0 c t rest sp z =
@@ -21,10 +21,10 @@ returns-then-c-ne0 c t rest sp z =
 
 pub finish-requires : goal.finish-requires
 finish-requires c =
-    let t = c.requires.0.0 in
-    let sp = c.requires.0.1 in
+    let t = c.requires.spelt.0 in
+    let sp = c.requires.spelt.1 in
     let did = c.lower_tree-c.ensures t sp.within sp.few sp.contents sp.parts sp.numbers refl in
-    let a = one_asks t c.requires.1.0 c.args.program.now sp.within sp.few c.requires.1.1 _ _ did c.if-c-ne0.false c.if-c.true in
+    let a = one_asks t c.requires.by_index.0 c.args.program.now sp.within sp.few c.requires.by_index.1 _ _ did c.if-c-ne0.false c.if-c.true in
     ((a.long, a.few, a.labels, a.functions), (_, a.records))
 
 pub returns-then-c : goal.returns-then-c
@@ -37,17 +37,17 @@ returns-then-c c t rest sp z =
 
 pub clear-requires : goal.clear-requires
 clear-requires c =
-    let t = c.requires.0.0 in
-    let sp = c.requires.0.1 in
+    let t = c.requires.spelt.0 in
+    let sp = c.requires.spelt.1 in
     let did = c.lower_tree-c.ensures t sp.within sp.few sp.contents sp.parts sp.numbers refl in
-    (omega arith, pass_long t c.requires.1.0 c.args.program.now sp.within sp.few c.requires.1.1 one_pass _ _ did)
+    (omega arith, pass_long t c.requires.by_index.0 c.args.program.now sp.within sp.few c.requires.by_index.1 one_pass _ _ did)
 
 pub compile_both-requires-2 : goal.compile_both-requires-2
 compile_both-requires-2 c =
-    let t = c.requires.0.0 in
-    let sp = c.requires.0.1 in
+    let t = c.requires.spelt.0 in
+    let sp = c.requires.spelt.1 in
     let did = c.lower_tree-c.ensures t sp.within sp.few sp.contents sp.parts sp.numbers refl in
-    ((t, sp), (c.requires.1.0, pass_cleared t c.requires.1.0 c.args.program.now sp.within sp.few c.requires.1.1 one_pass _ _ did _ c.clear.ensures))
+    ((t, sp), (c.requires.by_index.0, pass_cleared t c.requires.by_index.0 c.args.program.now sp.within sp.few c.requires.by_index.1 one_pass _ _ did _ c.clear.ensures))
 
 pub returns : goal.returns
 returns c t rest sp z =

@@ -7,5 +7,5 @@ use Rattle.opc.proofs.put_item.Goals as goal
 
 pub returns : goal.returns
 returns c =
-    let c = c.args in
-    (item_law c.program.now (16384 + 16 * c.k) (single_seen c.v) c.item_kind.ensures (c.word_of.ensures.0 ∙ word_plain c.v) c.put_u64.ensures c.copy.ensures, c.word_of.ensures.1)
+    let s_args = c.args in
+    (item_law s_args.program.now (16384 + 16 * s_args.k) (single_seen s_args.v) c.item_kind.ensures (c.word_of.ensures.0 ∙ word_plain s_args.v) c.put_u64.ensures c.copy.ensures, c.word_of.ensures.1)

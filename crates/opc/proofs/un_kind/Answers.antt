@@ -5,7 +5,7 @@ use Rattle.opc.proofs.Laws.{first_picked}
 use Rattle.opc.proofs.un_kind.Goals as goal
 
 pub returns-in-2 : goal.returns-in-2
-returns-in-2 c = let e : c.args.k ≡ 2 = c.in-2.keys1 in rw e
+returns-in-2 c = let e : c.args.k ≡ 2 = c.in-2.is in rw e
 
 pub returns-in_default : goal.returns-in_default
-returns-in_default c = first_picked Lneg (Nneg ∷ []) c.args.k (c.in_default.rest.1, tt)
+returns-in_default c = first_picked Lneg (Nneg ∷ []) c.args.k (c.in_default.in_default-own.rest.1, tt)

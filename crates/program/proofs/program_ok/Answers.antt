@@ -1,3 +1,5 @@
+use mathlib.Core.Path.{ap}
+use mathlib.Core.Bool.{not}
 use mathlib.Core.Path.{sym, ◌∙◌}
 use native.Mathlib.Omega.{arith}
 use borrow.Author.Tests.{not-true, not-false}
@@ -18,20 +20,20 @@ returns-then-n-start c =
 pub returns-then-not-records_ok : goal.returns-then-not-records_ok
 returns-then-not-records_ok c =
     let b = c.args.program.now in
-    bad_records b (bytes_of b (λ i. omega (arith, c.type_inv.program i))) (omega arith) c.get_u16-n.ensures.0 c.get_u16-start.ensures.0 c.records_ok.ensures (not-true c.records_ok.result c.if-not-records_ok.true)
+    bad_records b (bytes_of b (λ i. omega (arith, c.type_inv.program i))) (omega arith) c.get_u16-n.ensures.0 c.get_u16-start.ensures.0 c.records_ok.ensures (not-true c.records_ok.result (ap not c.if-not-records_ok.true))
 
 pub returns-then-not-pool_ok : goal.returns-then-not-pool_ok
 returns-then-not-pool_ok c =
     let b = c.args.program.now in
-    bad_pool b (bytes_of b (λ i. omega (arith, c.type_inv.program i))) (omega arith) c.get_u16-n.ensures.0 c.get_u16-start.ensures.0 c.pool_ok.ensures (not-true c.pool_ok.result c.if-not-pool_ok.true)
+    bad_pool b (bytes_of b (λ i. omega (arith, c.type_inv.program i))) (omega arith) c.get_u16-n.ensures.0 c.get_u16-start.ensures.0 c.pool_ok.ensures (not-true c.pool_ok.result (ap not c.if-not-pool_ok.true))
 
 pub labels_ok-requires : goal.labels_ok-requires
-labels_ok-requires c = (omega arith, omega arith, sym c.records_ok.ensures ∙ not-false c.records_ok.result c.if-not-records_ok.false)
+labels_ok-requires c = (omega arith, omega arith, sym c.records_ok.ensures ∙ not-false c.records_ok.result (ap not c.if-not-records_ok.false))
 
 pub functions_ok-requires : goal.functions_ok-requires
-functions_ok-requires c = (omega arith, omega arith, sym c.records_ok.ensures ∙ not-false c.records_ok.result c.if-not-records_ok.false)
+functions_ok-requires c = (omega arith, omega arith, sym c.records_ok.ensures ∙ not-false c.records_ok.result (ap not c.if-not-records_ok.false))
 
 pub returns : goal.returns
 returns c =
     let b = c.args.program.now in
-    tables_tell b (bytes_of b (λ i. omega (arith, c.type_inv.program i))) (omega arith) c.get_u16-n.ensures.0 c.get_u16-start.ensures.0 (omega arith) (omega arith) c.records_ok.ensures (not-false c.records_ok.result c.if-not-records_ok.false) c.pool_ok.ensures (not-false c.pool_ok.result c.if-not-pool_ok.false) c.labels_ok.ensures c.functions_ok.ensures
+    tables_tell b (bytes_of b (λ i. omega (arith, c.type_inv.program i))) (omega arith) c.get_u16-n.ensures.0 c.get_u16-start.ensures.0 (omega arith) (omega arith) c.records_ok.ensures (not-false c.records_ok.result (ap not c.if-not-records_ok.false)) c.pool_ok.ensures (not-false c.pool_ok.result (ap not c.if-not-pool_ok.false)) c.labels_ok.ensures c.functions_ok.ensures

@@ -13,12 +13,12 @@ loop-i-init c = (omega arith, refl)
 
 pub loop-i-preserved : goal.loop-i-preserved
 loop-i-preserved c =
-    let c = c.args in
+    let s_args = c.args in
     let l = c.loop-i in
     let h = c.loop-i-test.true in
-    let k = c.wide.ensures.0 ∙ sym (get_d_part c.s.now c.at 256 (16 + l.i) 0 (omega arith)) in
-    let w = c.get_u64.ensures ∙ ap be_value (sym (part_part c.s.now c.at 256 (40 + l.i * 8) 8 (omega arith))) in
-    (omega arith, upto_turn (item_test (part c.s.now c.at 256)) l.i l.invariant.1 (c.item_ok-ok.ensures ∙ ap₂ item_ok k w) refl)
+    let k = c.wide.ensures.0 ∙ sym (get_d_part s_args.s.now s_args.at 256 (16 + l.i) 0 (omega arith)) in
+    let w = c.get_u64.ensures ∙ ap be_value (sym (part_part s_args.s.now s_args.at 256 (40 + l.i * 8) 8 (omega arith))) in
+    (omega arith, upto_turn (item_test (part s_args.s.now s_args.at 256)) l.i l.invariant.1 (c.item_ok-ok.ensures ∙ ap₂ item_ok k w) refl)
 
 pub returns : goal.returns
 returns c =

@@ -5,22 +5,22 @@ pub enum_told-1 : goal.enum_told-1
 enum_told-1 c = search rules
 
 pub returns-in-Empty : goal.returns-in-Empty
-returns-in-Empty c = rw c.enum_told-1.given.1
+returns-in-Empty c = rw c.in-Empty.is
 
 pub returns-in-Num : goal.returns-in-Num
-returns-in-Num c = rw c.enum_told-in-Num-1.given.1
+returns-in-Num c = rw c.in-Num.is
 
 pub returns-in-Str : goal.returns-in-Str
-returns-in-Str c = rw c.enum_told-in-Str-1.given.1
+returns-in-Str c = rw c.in-Str.is
 
 pub returns-in-Bl : goal.returns-in-Bl
-returns-in-Bl c = rw c.enum_told-in-Bl-1.given.1
+returns-in-Bl c = rw c.in-Bl.is
 
 pub returns-in-Null : goal.returns-in-Null
-returns-in-Null c = rw c.enum_told-in-Null-1.given.1
+returns-in-Null c = rw c.in-Null.is
 
 pub returns-in-Arr : goal.returns-in-Arr
-returns-in-Arr c = rw c.enum_told-in-Arr-1.given.1
+returns-in-Arr c = rw c.in-Arr.is
 
 pub returns-in-Tab : goal.returns-in-Tab
-returns-in-Tab c = rw c.enum_told-in-Tab-1.given.1
+returns-in-Tab c = rw c.in-Tab.is

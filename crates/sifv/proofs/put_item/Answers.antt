@@ -10,7 +10,7 @@ pub put_u64-requires : goal.put_u64-requires
 put_u64-requires c = simp length-set (omega arith)
 
 pub shape_of-s : goal.shape_of-s
-shape_of-s c = c.put_u64.auto.0 ∙ simp length-set
+shape_of-s c = c.put_u64.auto.d ∙ simp length-set
 
 pub returns : goal.returns
 returns c =

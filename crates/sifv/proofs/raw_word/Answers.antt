@@ -4,10 +4,10 @@ use Rattle.sifv.specs.laws.Laws.{flag_back}
 use Rattle.sifv.proofs.raw_word.Goals as goal
 
 pub returns-in-Num : goal.returns-in-Num
-returns-in-Num c = rw c.v-1.given.1 (c.bits_of.ensures.0, ap Num c.bits_of.ensures.1)
+returns-in-Num c = rw c.in-Num.is (c.bits_of.ensures.0, ap Num c.bits_of.ensures.1)
 
 pub returns-in-Str : goal.returns-in-Str
-returns-in-Str c = rw c.v-in-Str-1.given.1 (refl, refl)
+returns-in-Str c = rw c.in-Str.is (refl, refl)
 
 pub returns-in-Bl : goal.returns-in-Bl
-returns-in-Bl c = rw c.v-in-Bl-1.given.1 (c.flag.ensures, ap Bl (flag_back _ c.flag.ensures))
+returns-in-Bl c = rw c.in-Bl.is (c.flag.ensures, ap Bl (flag_back _ c.flag.ensures))

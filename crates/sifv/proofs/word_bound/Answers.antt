@@ -4,28 +4,28 @@ use Prim.Native.Nat.{◌%◌}
 use Rattle.sifv.proofs.word_bound.Goals as goal
 
 pub returns-in-0 : goal.returns-in-0
-returns-in-0 c = rw c.in-0.keys1
+returns-in-0 c = rw c.in-0.is
 
 pub returns-in-1 : goal.returns-in-1
-returns-in-1 c = rw c.in-1.keys2
+returns-in-1 c = rw c.in-1.is
 
 pub returns-in-2 : goal.returns-in-2
-returns-in-2 c = rw c.in-2.keys3
+returns-in-2 c = rw c.in-2.is
 
 pub returns-in-3 : goal.returns-in-3
-returns-in-3 c = rw c.in-3.keys4
+returns-in-3 c = rw c.in-3.is
 
 pub returns-in-4 : goal.returns-in-4
-returns-in-4 c = rw c.in-4.keys5
+returns-in-4 c = rw c.in-4.is
 
 pub returns-in-5 : goal.returns-in-5
-returns-in-5 c = rw c.in-5.keys6
+returns-in-5 c = rw c.in-5.is
 
 pub returns-in-6 : goal.returns-in-6
-returns-in-6 c = rw c.in-6.keys7
+returns-in-6 c = rw c.in-6.is
 
 pub returns-in_default : goal.returns-in_default
 returns-in_default c =
     let k = c.args.kind % 8 in
-    let r = c.in_default.rest.0.0 in
+    let r = c.in_default.in_default-own.rest.0.0 in
     rw (ne_eqb k 1 r.0.0.0.1, ne_eqb k 2 r.0.0.1, ne_eqb k 3 r.0.1, ne_eqb k 4 r.1)

@@ -7,11 +7,11 @@ use Rattle.state.proofs.start.Goals as goal
 
 pub put_u16-requires : goal.put_u16-requires
 put_u16-requires c =
-    omega (arith, c.copy.auto.0, c.clear.kept.0, c.requires.1)
+    omega (arith, c.copy.auto.d, c.clear.auto.d, c.requires.1)
 
 pub shape_of-state : goal.shape_of-state
 shape_of-state c =
-    c.put_u16.auto.0 ∙ c.copy.kept.0 ∙ c.clear.kept.0
+    c.put_u16.auto.d ∙ c.copy.auto.d ∙ c.clear.auto.d
 
 pub returns : goal.returns
 returns c =

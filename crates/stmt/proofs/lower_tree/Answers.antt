@@ -5,11 +5,11 @@ use Rattle.stmt.proofs.lower_tree.Goals as goal
 
 pub bounds-entries-1 : goal.bounds-entries-1
 bounds-entries-1 c =
-    omega (arith, tree_room c.args.entries.now c.args.bodies.now c.requires.1.0 c.requires.1.2 c.requires.1.3 c.requires.1.4 c.requires.1.5)
+    omega (arith, tree_room c.args.entries.now c.args.bodies.now c.requires.stmts_in.0 c.requires.stmts_in.2 c.requires.stmts_in.3 c.requires.stmts_in.4 c.requires.stmts_in.5)
 
 pub blocks-d-requires : goal.blocks-d-requires
 blocks-d-requires c =
-    tree_reads c.args.entries.now c.args.bodies.now c.requires.1.0 c.requires.1.2 c.requires.1.3 c.requires.1.4 c.requires.1.5 c.start-p.ensures c.requires.0
+    tree_reads c.args.entries.now c.args.bodies.now c.requires.stmts_in.0 c.requires.stmts_in.2 c.requires.stmts_in.3 c.requires.stmts_in.4 c.requires.stmts_in.5 c.start-p.ensures c.requires.ready
 
 pub returns : goal.returns
 returns c =

@@ -21,7 +21,7 @@ overflow_add-name-in-loop-i c = omega (arith, c.slice_known-in-loop-i-1.given (1
 pub enter-requires : goal.enter-requires
 enter-requires c =
     let l = c.loop-i in
-    (omega (arith, c.slice_known-in-loop-i-1.given (16 * l.i + 4), c.requires.0.0, l.invariant.1), omega arith)
+    (omega (arith, c.slice_known-in-loop-i-1.given (16 * l.i + 4), c.requires.in_bounds.0, l.invariant.1), omega arith)
 
 pub loop-i-preserved : goal.loop-i-preserved
 loop-i-preserved c =
@@ -30,8 +30,8 @@ loop-i-preserved c =
     let e = c.enter.ensures in
     let x = c.slice_known-in-loop-i-1.given (16 * l.i + 4) in (
       omega arith,
-      entered_length 34816 (get_or l.program (16 * l.i + 4) 0) l.i (eqb (get_or l.program (16 * l.i) 0) 16) l.program _ (omega (arith, x, c.requires.0.0, l.invariant.1)) e ∙ l.invariant.1,
-      λ cs h. functions_next (l.invariant.2 cs h) i c.requires.0.1 (omega (arith, c.requires.0.0, l.invariant.1)) e,
+      entered_length 34816 (get_or l.program (16 * l.i + 4) 0) l.i (eqb (get_or l.program (16 * l.i) 0) 16) l.program _ (omega (arith, x, c.requires.in_bounds.0, l.invariant.1)) e ∙ l.invariant.1,
+      λ cs h. functions_next (l.invariant.2 cs h) i c.requires.in_bounds.1 (omega (arith, c.requires.in_bounds.0, l.invariant.1)) e,
     )
 
 pub shape_of-program : goal.shape_of-program
@@ -39,4 +39,4 @@ shape_of-program c = c.loop-i.invariant.1
 
 pub returns : goal.returns
 returns c cs h =
-    let l = c.loop-i in turned_end (functions_go l.i) (l.invariant.2 cs h) (omega arith) (omega (arith, c.requires.0.0, l.invariant.1)) (λ g x. refl)
+    let l = c.loop-i in turned_end (functions_go l.i) (l.invariant.2 cs h) (omega arith) (omega (arith, c.requires.in_bounds.0, l.invariant.1)) (λ g x. refl)

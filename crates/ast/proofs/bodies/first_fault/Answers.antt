@@ -1,3 +1,4 @@
+use mathlib.Core.Bool.{not}
 use Rattle.ast.proofs.Rooms.{size_in, at_place, to_end}
 use Rattle.ast.proofs.Scan.{nodes_end}
 use Rattle.ast.proofs.Faults.{fault_field, fault_number, fault_later}
@@ -29,7 +30,7 @@ returns-then-not-field_ok c =
     let a = c.args in
     let p = at_place a.entries.now a.bodies.now l.i l.at l.invariant.1 (omega arith) (omega arith) in
     let e = rw (to_end l.at) at c.field_ok.ensures in
-    sym (l.invariant.2 ∙ fault_field a.texts 0 p.nodes (sym e ∙ not-true c.field_ok.result c.if-not-field_ok.true))
+    sym (l.invariant.2 ∙ fault_field a.texts 0 p.nodes (sym e ∙ not-true c.field_ok.result (ap not c.if-not-field_ok.true)))
 
 pub finite-requires : goal.finite-requires
 finite-requires c =
@@ -43,7 +44,7 @@ returns-then-not-finite c =
     let p = at_place a.entries.now a.bodies.now l.i l.at l.invariant.1 (omega arith) (omega arith) in
     let e = rw (to_end l.at) at c.field_ok.ensures in
     let d = rw (to_end l.at) at c.finite.ensures in
-    sym (l.invariant.2 ∙ fault_number a.texts 0 p.nodes (sym e ∙ not-false c.field_ok.result c.if-not-field_ok.false) (sym d ∙ not-true c.finite.result c.if-not-finite.true))
+    sym (l.invariant.2 ∙ fault_number a.texts 0 p.nodes (sym e ∙ not-false c.field_ok.result (ap not c.if-not-field_ok.false)) (sym d ∙ not-true c.finite.result (ap not c.if-not-finite.true)))
 
 pub overflow_add-at : goal.overflow_add-at
 overflow_add-at c =
@@ -57,7 +58,7 @@ loop-i-preserved c =
     let p = at_place a.entries.now a.bodies.now l.i l.at l.invariant.1 (omega arith) (omega arith) in
     let e = rw (to_end l.at) at c.field_ok.ensures in
     let d = rw (to_end l.at) at c.finite.ensures in
-    let k = fault_later a.texts 0 p.nodes (sym e ∙ not-false c.field_ok.result c.if-not-field_ok.false) (sym d ∙ not-false c.finite.result c.if-not-finite.false) in
+    let k = fault_later a.texts 0 p.nodes (sym e ∙ not-false c.field_ok.result (ap not c.if-not-field_ok.false)) (sym d ∙ not-false c.finite.result (ap not c.if-not-finite.false)) in
     rw c.size-at.ensures.0 (p.inside, p.rest, l.invariant.2 ∙ k)
 
 pub returns : goal.returns

@@ -12,8 +12,8 @@ enum_told-1 c = search rules
 
 pub returns-in_default : goal.returns-in_default
 returns-in_default c =
-    let a = c.args in sym (parse_pass (nodes_from a.entries.now a.bodies.now) ∙ ap all_used_up (refused c.node.ensures c.enum_told-1.given.1))
+    let a = c.args in sym (parse_pass (nodes_from a.entries.now a.bodies.now) ∙ ap all_used_up (refused c.node.ensures c.in_default.is))
 
 pub returns : goal.returns
 returns c =
-    let a = c.args in all_nodes (here c.node.ensures _ _ c.u-1.given.1) ∙ sym (parse_pass (nodes_from a.entries.now a.bodies.now))
+    let a = c.args in all_nodes (here c.node.ensures _ _ c.in-Taken.is) ∙ sym (parse_pass (nodes_from a.entries.now a.bodies.now))

@@ -1,3 +1,4 @@
+use mathlib.Core.Bool.{not}
 use borrow.Author.Rules.{rules}
 use Rattle.lent.specs.laws.Parts.{part_lent}
 use Rattle.lent.specs.Bytes.{splice}
@@ -23,8 +24,8 @@ returns-then-text-gt63 c =
 
 pub returns-then-not-state_ok : goal.returns-then-not-state_ok
 returns-then-not-state_ok c =
-    read_refused c.args.state.now c.args.text c.args.out.now c.if-state-lt-STATE_SIZE.false c.if-out-lt-VALUE_SIZE.false c.if-text-gt63.false c.state_ok.ensures (not-true c.state_ok.result c.if-not-state_ok.true)
+    read_refused c.args.state.now c.args.text c.args.out.now c.if-state-lt-STATE_SIZE.false c.if-out-lt-VALUE_SIZE.false c.if-text-gt63.false c.state_ok.ensures (not-true c.state_ok.result (ap not c.if-not-state_ok.true))
 
 pub returns : goal.returns
 returns c =
-    read_written c.args.state.now c.args.text c.args.out.now c.if-state-lt-STATE_SIZE.false c.if-out-lt-VALUE_SIZE.false c.if-text-gt63.false (each_of c.args.state.now 0 (λ i h. omega (arith, c.type_inv.state i))) c.state_ok.ensures (not-false c.state_ok.result c.if-not-state_ok.false) (c.copy.ensures ∙ ap (splice c.args.out.now 0) (part_lent c.args.state.now (24576 + c.args.text * 256) 256)) (search rules)
+    read_written c.args.state.now c.args.text c.args.out.now c.if-state-lt-STATE_SIZE.false c.if-out-lt-VALUE_SIZE.false c.if-text-gt63.false (each_of c.args.state.now 0 (λ i h. omega (arith, c.type_inv.state i))) c.state_ok.ensures (not-false c.state_ok.result (ap not c.if-not-state_ok.false)) (c.copy.ensures ∙ ap (splice c.args.out.now 0) (part_lent c.args.state.now (24576 + c.args.text * 256) 256)) (search rules)

@@ -1,4 +1,6 @@
 -- `calls::run_call::run_on` meets its contract.
+use mathlib.Core.Path.{ap}
+use mathlib.Core.Bool.{not}
 use Rattle.calls.proofs.Answered.{programmed, program_ready, start_small, run_refused_lem, run_overflows, run_written, used_canon, counted_so}
 use Rattle.lent.specs.laws.Parts.{length_part, splice_lent}
 use Rattle.lent.specs.laws.Each.{each_of}
@@ -16,12 +18,12 @@ state_ok-requires c =
     (omega (arith, s.requires.1), omega (arith, r.few, c.count_of-n.ensures (program_in s.args.program.now) (programmed s.args.program.now s.requires.3)))
 
 pub returns-then-not-state_ok : goal.returns-then-not-state_ok
-returns-then-not-state_ok c = let s = (goal.at.returns-then-not-state_ok c).Start in run_refused_lem s.args.program.now s.args.state.now s.args.steps s.args.report.now (c.count_of-n.ensures (program_in s.args.program.now) (programmed s.args.program.now s.requires.3)) c.state_ok.ensures (not-true c.state_ok.result c.if-not-state_ok.true)
+returns-then-not-state_ok c = let s = (goal.at.returns-then-not-state_ok c).Start in run_refused_lem s.args.program.now s.args.state.now s.args.steps s.args.report.now (c.count_of-n.ensures (program_in s.args.program.now) (programmed s.args.program.now s.requires.3)) c.state_ok.ensures (not-true c.state_ok.result (ap not c.if-not-state_ok.true))
 
 pub returns-then-count-steps : goal.returns-then-count-steps
 returns-then-count-steps c =
     let s = (goal.at.returns-then-count-steps c).Start in
-    run_overflows s.args.program.now s.args.state.now s.args.steps s.args.report.now (c.count_of-n.ensures (program_in s.args.program.now) (programmed s.args.program.now s.requires.3)) c.state_ok.ensures (not-false c.state_ok.result c.if-not-state_ok.false)
+    run_overflows s.args.program.now s.args.state.now s.args.steps s.args.report.now (c.count_of-n.ensures (program_in s.args.program.now) (programmed s.args.program.now s.requires.3)) c.state_ok.ensures (not-false c.state_ok.result (ap not c.if-not-state_ok.false))
     (omega (arith, counted_so s.args.state.now c.progress_of-first.ensures, c.if-count-steps.true))
 
 pub run_used-ran-requires : goal.run_used-ran-requires
@@ -30,7 +32,7 @@ run_used-ran-requires c =
     let b = s.args.state.now in
     let r = program_ready s.args.program.now (each_of s.args.program.now 0 (λ i h. omega (arith, c.type_inv.program i))) s.requires.0 s.requires.3 in
     let e = c.count_of-n.ensures (program_in s.args.program.now) (programmed s.args.program.now s.requires.3) in
-    let ok = sym c.state_ok.ensures ∙ not-false c.state_ok.result c.if-not-state_ok.false in
+    let ok = sym c.state_ok.ensures ∙ not-false c.state_ok.result (ap not c.if-not-state_ok.false) in
     (r, used_canon c.count_of-n.result b (omega (arith, r.few, e)) (each_of b 0 (λ i h. omega (arith, c.slice_known-1.given i))) (omega (arith, s.requires.1)) ok c.progress_of-first.ensures, e, omega (arith, c.if-count-steps.false), length_part b 0 47360 (omega (arith, s.requires.1)))
 
 pub overflow_sub-last : goal.overflow_sub-last
@@ -53,5 +55,5 @@ returns c =
     let ran = c.run_used-ran in
     let l = ran.auto.1.0 ∙ length_part b 0 47360 (omega (arith, s.requires.1)) in
     run_written q b s.args.steps s.args.report.now e (omega (arith, r.few, e)) (each_of b 0 (λ i h. omega (arith, c.slice_known-1.given i))) s.requires.1
-    c.state_ok.ensures (not-false c.state_ok.result c.if-not-state_ok.false) c.progress_of-first.ensures c.if-count-steps.false ran.ensures l (splice_lent b 0 47360 ran.new.1.0 l)
-    (sym (c.start_of-start.ensures (program_in q) (programmed q s.requires.3))) c.write_report.ensures c.write_report.auto.0 s.requires.2
+    c.state_ok.ensures (not-false c.state_ok.result (ap not c.if-not-state_ok.false)) c.progress_of-first.ensures c.if-count-steps.false ran.ensures l (splice_lent b 0 47360 ran.new.1.0 l)
+    (sym (c.start_of-start.ensures (program_in q) (programmed q s.requires.3))) c.write_report.ensures c.write_report.auto.out s.requires.2

@@ -1,3 +1,5 @@
+use mathlib.Core.Path.{ap}
+use mathlib.Core.Bool.{not}
 use borrow.Author.Rules.{rules}
 use mathlib.Core.Path.{sym, ◌∙◌}
 use native.Mathlib.Omega.{arith}
@@ -13,12 +15,12 @@ returns-then-state-lt-STATE_SIZE c = start_short_state c.args.program.now c.args
 
 pub returns-then-not-program_ok : goal.returns-then-not-program_ok
 returns-then-not-program_ok c =
-    start_refused c.args.program.now c.args.state.now c.if-program-lt-PROGRAM_SIZE.false c.if-state-lt-STATE_SIZE.false (sym c.program_ok.ensures ∙ not-true c.program_ok.result c.if-not-program_ok.true)
+    start_refused c.args.program.now c.args.state.now c.if-program-lt-PROGRAM_SIZE.false c.if-state-lt-STATE_SIZE.false (sym c.program_ok.ensures ∙ not-true c.program_ok.result (ap not c.if-not-program_ok.true))
 
 pub start-requires : goal.start-requires
 start-requires c =
-    (c.if-program-lt-PROGRAM_SIZE.false, omega arith, programmed c.args.program.now (sym c.program_ok.ensures ∙ not-false c.program_ok.result c.if-not-program_ok.false))
+    (c.if-program-lt-PROGRAM_SIZE.false, omega arith, programmed c.args.program.now (sym c.program_ok.ensures ∙ not-false c.program_ok.result (ap not c.if-not-program_ok.false)))
 
 pub returns : goal.returns
 returns c =
-    start_written c.args.program.now c.args.state.now c.if-program-lt-PROGRAM_SIZE.false c.if-state-lt-STATE_SIZE.false (sym c.program_ok.ensures ∙ not-false c.program_ok.result c.if-not-program_ok.false) c.start.ensures (search rules)
+    start_written c.args.program.now c.args.state.now c.if-program-lt-PROGRAM_SIZE.false c.if-state-lt-STATE_SIZE.false (sym c.program_ok.ensures ∙ not-false c.program_ok.result (ap not c.if-not-program_ok.false)) c.start.ensures (search rules)

@@ -1,4 +1,5 @@
 -- `execute::table::tblg` meets its contract.
+use mathlib.Core.Bool.{not}
 use mathlib.Core.Path.{refl, sym, ap, ◌∙◌}
 use native.Mathlib.Omega.{arith}
 use borrow.Author.Tests.{not-true, not-false}
@@ -35,11 +36,11 @@ has_key-requires c =
 
 pub returns-then-not-has_key : goal.returns-then-not-has_key
 returns-then-not-has_key c =
-    looked_absent c.args.state.now c.requires.0 c.args.tabname c.requires.1 c.slot-at.ensures c.args.key c.args.dest (sym c.kind_at-k.ensures ∙ c.if-k-ne6.false) c.len_at-n.ensures c.requires.3 c.has_key.ensures (not-true c.has_key.result c.if-not-has_key.true) (ap did.Err c.key_absent.ensures) refl
+    looked_absent c.args.state.now c.requires.0 c.args.tabname c.requires.1 c.slot-at.ensures c.args.key c.args.dest (sym c.kind_at-k.ensures ∙ c.if-k-ne6.false) c.len_at-n.ensures c.requires.3 c.has_key.ensures (not-true c.has_key.result (ap not c.if-not-has_key.true)) (ap did.Err c.key_absent.ensures) refl
 
 pub item-v-requires : goal.item-v-requires
 item-v-requires c =
-    let g = key_in (part c.args.state.now c.slot-at.result 256) c.key_place-i.result c.args.key (name_formed _ c.requires.0 _ c.requires.1 c.slot-at.ensures).1 (sym c.kind_at-k.ensures ∙ c.if-k-ne6.false) c.len_at-n.ensures c.key_place-i.ensures (sym c.has_key.ensures ∙ not-false c.has_key.result c.if-not-has_key.false) in ((name_formed _ c.requires.0 _ c.requires.1 c.slot-at.ensures).0, (name_formed _ c.requires.0 _ c.requires.1 c.slot-at.ensures).1, omega (arith, g, c.len_at-n.ensures))
+    let g = key_in (part c.args.state.now c.slot-at.result 256) c.key_place-i.result c.args.key (name_formed _ c.requires.0 _ c.requires.1 c.slot-at.ensures).1 (sym c.kind_at-k.ensures ∙ c.if-k-ne6.false) c.len_at-n.ensures c.key_place-i.ensures (sym c.has_key.ensures ∙ not-false c.has_key.result (ap not c.if-not-has_key.false)) in ((name_formed _ c.requires.0 _ c.requires.1 c.slot-at.ensures).0, (name_formed _ c.requires.0 _ c.requires.1 c.slot-at.ensures).1, omega (arith, g, c.len_at-n.ensures))
 
 pub put-requires : goal.put-requires
 put-requires c =
@@ -47,4 +48,4 @@ put-requires c =
 
 pub returns : goal.returns
 returns c =
-    looked_found c.args.state.now c.requires.0 c.args.tabname c.requires.1 c.slot-at.ensures c.args.key c.args.dest (sym c.kind_at-k.ensures ∙ c.if-k-ne6.false) c.len_at-n.ensures c.key_place-i.result c.key_place-i.ensures c.has_key.ensures (not-false c.has_key.result c.if-not-has_key.false) c.item-v.ensures c.reg.ensures refl c.put.ensures
+    looked_found c.args.state.now c.requires.0 c.args.tabname c.requires.1 c.slot-at.ensures c.args.key c.args.dest (sym c.kind_at-k.ensures ∙ c.if-k-ne6.false) c.len_at-n.ensures c.key_place-i.result c.key_place-i.ensures c.has_key.ensures (not-false c.has_key.result (ap not c.if-not-has_key.false)) c.item-v.ensures c.reg.ensures refl c.put.ensures

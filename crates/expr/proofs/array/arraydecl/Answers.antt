@@ -5,7 +5,7 @@ use Rattle.expr.proofs.array.arraydecl.Goals as goal
 
 pub bounds-contents-1 : goal.bounds-contents-1
 bounds-contents-1 c =
-    let h = arr_asks c.requires.0 c.requires.1 in
+    let h = arr_asks c.requires.reads c.requires.contents_value in
     omega (arith, arr_room h.2)
 
 pub overflow_cast-m : goal.overflow_cast-m
@@ -13,18 +13,18 @@ overflow_cast-m c = omega (arith, c.type_inv.contents 1)
 
 pub bounds-bodies-0 : goal.bounds-bodies-0
 bounds-bodies-0 c =
-    let h = arr_asks c.requires.0 c.requires.1 in
+    let h = arr_asks c.requires.reads c.requires.contents_value in
     omega (arith, arr_roomb h.2)
 
 pub push_items-q-requires : goal.push_items-q-requires
 push_items-q-requires c =
-    (c.requires.0.ready, omega (arith, c.type_inv.contents 1))
+    (c.requires.reads.ready, omega (arith, c.type_inv.contents 1))
 
 pub arrayitems-end-requires : goal.arrayitems-end-requires
 arrayitems-end-requires c =
-    let h = arr_asks c.requires.0 c.requires.1 in
-    let r = c.requires.0.ready in
-    ((omega (arith, c.type_inv.contents 1), r.pool, λ e. omega (arith, c.push_items-q.ensures.room e, c.push_items-q.kept, r.room)), (h.1, arr_lits h.2))
+    let h = arr_asks c.requires.reads c.requires.contents_value in
+    let r = c.requires.reads.ready in
+    ((omega (arith, c.type_inv.contents 1), r.pool, λ e. omega (arith, c.push_items-q.ensures.room e, c.push_items-q.auto, r.room)), (h.1, arr_lits h.2))
 
 pub overflow_mul-m : goal.overflow_mul-m
 overflow_mul-m c =
@@ -36,4 +36,4 @@ overflow_add-m c =
 
 pub returns : goal.returns
 returns c =
-    arr_front c.requires.1 (λ a ls h. arr_made h c.array_fields-f.ensures c.push_items-q.ensures (c.arrayitems-end.ensures ls (arr_lits h)) c.start.ensures)
+    arr_front c.requires.contents_value (λ a ls h. arr_made h c.array_fields-f.ensures c.push_items-q.ensures (c.arrayitems-end.ensures ls (arr_lits h)) c.start.ensures)

@@ -37,7 +37,7 @@ item : (c : Inside) → NextOf c (begun c).requires.1.0
 item c = nexts c (begun c).requires.1.0 (begun c).requires.1.1
 
 pub loop-i-init : goal.loop-i-init
-loop-i-init c = (omega arith, refl, omega (arith, c.requires.1.1.head), λ ls h. more_start ls _ _ _ _ _ _ h)
+loop-i-init c = (omega arith, refl, omega (arith, c.requires.lits.1.head), λ ls h. more_start ls _ _ _ _ _ _ h)
 
 pub overflow_mul-kind : goal.overflow_mul-kind
 overflow_mul-kind c = omega (arith, (begun c).requires.0.0, c.loop-i-test.true)

@@ -6,11 +6,11 @@ use Rattle.stmt.proofs.fns.keep_fn.Goals as goal
 
 pub param_items-requires : goal.param_items-requires
 param_items-requires c =
-    let h = c.requires.0 c.if-keep.true in (h.1, c.requires.1.1)
+    let h = c.requires.recs_bound c.if-keep.true in (h.1, c.requires.names_len_bound.1)
 
 pub put_record-requires : goal.put_record-requires
 put_record-requires c =
-    let h = c.requires.0 c.if-keep.true in omega (arith, h.0, c.requires.1.1, ap length c.param_items.ensures, length_params c.args.low.items c.args.names.now c.args.out.now h.1 c.requires.1.1)
+    let h = c.requires.recs_bound c.if-keep.true in omega (arith, h.0, c.requires.names_len_bound.1, ap length c.param_items.ensures, length_params c.args.low.items c.args.names.now c.args.out.now h.1 c.requires.names_len_bound.1)
 
 pub returns-then-keep : goal.returns-then-keep
 returns-then-keep c =

@@ -41,8 +41,8 @@ newlbl-requires c =
 
 pub shape_of-out : goal.shape_of-out
 shape_of-out c =
-    c.push_at-e.auto.1.1.1.0 ∙ c.load_at-d.kept.1.1.1.0 ∙ c.push_at-c.kept.1.1.1.0
-    ∙ c.load_at-b.kept.1.1.1.0 ∙ c.push_at-a.kept.1.1.1.0
+    c.push_at-e.auto.out ∙ c.load_at-d.auto.out ∙ c.push_at-c.auto.out
+    ∙ c.load_at-b.auto.out ∙ c.push_at-a.auto.out
 
 pub returns : goal.returns
 returns c =

@@ -19,8 +19,8 @@ push_at-requires c =
 
 pub shape_of-out : goal.shape_of-out
 shape_of-out c =
-    c.push_at.auto.1.1.1.0 ∙ c.load_at-c.kept.1.1.1.0
-    ∙ c.push_at-b.kept.1.1.1.0 ∙ c.push_at-a.kept.1.1.1.0
+    c.push_at.auto.out ∙ c.load_at-c.auto.out
+    ∙ c.push_at-b.auto.out ∙ c.push_at-a.auto.out
 
 pub returns : goal.returns
 returns c =

@@ -11,21 +11,21 @@ loop-i-init c = (refl, λ xs e w. ends_start xs c.args.lblidx c.args.out.now e w
 pub overflow_mul-at : goal.overflow_mul-at
 overflow_mul-at c =
     let l = c.loop-i in
-    omega (arith, ends_room (l.invariant.1 c.requires.0.0 c.requires.0.1 c.requires.0.2) (λ z. omega (arith, z)))
+    omega (arith, ends_room (l.invariant.1 c.requires.by_index.0 c.requires.by_index.1 c.requires.by_index.2) (λ z. omega (arith, z)))
 
 pub get_u64-before-requires : goal.get_u64-before-requires
 get_u64-before-requires c =
-    let r = ends_room (c.loop-i.invariant.1 c.requires.0.0 c.requires.0.1 c.requires.0.2) (λ z. omega (arith, z)) in
-    omega (arith, r, c.loop-i.invariant.0, c.requires.1)
+    let r = ends_room (c.loop-i.invariant.1 c.requires.by_index.0 c.requires.by_index.1 c.requires.by_index.2) (λ z. omega (arith, z)) in
+    omega (arith, r, c.loop-i.invariant.0, c.requires.in_bounds)
 
 pub put_u64-requires : goal.put_u64-requires
 put_u64-requires c =
-    let r = ends_room (c.loop-i.invariant.1 c.requires.0.0 c.requires.0.1 c.requires.0.2) (λ z. omega (arith, z)) in
-    omega (arith, r, c.loop-i.invariant.0, c.requires.1)
+    let r = ends_room (c.loop-i.invariant.1 c.requires.by_index.0 c.requires.by_index.1 c.requires.by_index.2) (λ z. omega (arith, z)) in
+    omega (arith, r, c.loop-i.invariant.0, c.requires.in_bounds)
 
 pub loop-i-smaller : goal.loop-i-smaller
 loop-i-smaller c =
-    let f = ends_falls (c.loop-i.invariant.1 c.requires.0.0 c.requires.0.1 c.requires.0.2) (λ z. omega (arith, z)) (16 * c.loop-i.i - 8) (omega arith) in
+    let f = ends_falls (c.loop-i.invariant.1 c.requires.by_index.0 c.requires.by_index.1 c.requires.by_index.2) (λ z. omega (arith, z)) (16 * c.loop-i.i - 8) (omega arith) in
     omega (arith, f, c.get_u64-before.ensures)
 
 pub loop-i-preserved : goal.loop-i-preserved
@@ -33,7 +33,7 @@ loop-i-preserved c =
     (
       search rules,
       λ xs e w.
-          let turned = ends_turn (c.loop-i.invariant.1 xs e w) (λ z. omega (arith, z)) (16 * c.loop-i.i - 8) (omega arith) (omega (arith, c.loop-i.invariant.0, c.requires.1)) in
+          let turned = ends_turn (c.loop-i.invariant.1 xs e w) (λ z. omega (arith, z)) (16 * c.loop-i.i - 8) (omega arith) (omega (arith, c.loop-i.invariant.0, c.requires.in_bounds)) in
           rw c.put_u64.ensures (rw (sym c.get_u64-before.ensures) at turned),
     )
 

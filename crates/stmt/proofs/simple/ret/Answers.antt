@@ -11,29 +11,29 @@ use Rattle.stmt.proofs.simple.ret.Goals as goal
 
 pub bounds-contents-1 : goal.bounds-contents-1
 bounds-contents-1 c =
-    omega (arith, stmt_room c.args.lbl c.requires.0)
+    omega (arith, stmt_room c.args.lbl c.requires.reads)
 
 pub fn_ret-requires : goal.fn_ret-requires
 fn_ret-requires c =
-    rw c.start-p.ensures c.requires.0.ready
+    rw c.start-p.ensures c.requires.reads.ready
 
 pub returns-then-contents-eq0 : goal.returns-then-contents-eq0
 returns-then-contents-eq0 c =
-    return_front c.args.lbl c.start-p.ensures c.requires.1 c.if-contents-eq0.true c.fn_ret.ensures
+    return_front c.args.lbl c.start-p.ensures c.requires.contents_value c.if-contents-eq0.true c.fn_ret.ensures
 
 pub expr_at-e-requires : goal.expr_at-e-requires
 expr_at-e-requires c =
-    result_reads c.args.lbl c.start-p.ensures c.requires.1 c.if-contents-eq0.false c.requires.0
+    result_reads c.args.lbl c.start-p.ensures c.requires.contents_value c.if-contents-eq0.false c.requires.reads
 
 pub push_at-q-requires : goal.push_at-q-requires
 push_at-q-requires c =
-    goes_ready exprs (result_reads c.args.lbl c.start-p.ensures c.requires.1 c.if-contents-eq0.false c.requires.0) c.expr_at-e.ensures
+    goes_ready exprs (result_reads c.args.lbl c.start-p.ensures c.requires.contents_value c.if-contents-eq0.false c.requires.reads) c.expr_at-e.ensures
 
 pub fn_ret-requires-2 : goal.fn_ret-requires-2
 fn_ret-requires-2 c =
     let l = c.args.lbl in
     let f = rw c.prevreg-reg.ensures at c.fields_of-f.ensures in
-    let reads = result_reads l c.start-p.ensures c.requires.1 c.if-contents-eq0.false c.requires.0 in
+    let reads = result_reads l c.start-p.ensures c.requires.contents_value c.if-contents-eq0.false c.requires.reads in
     emitted_ready
     (emit_one l (FnStackPush (prev c.expr_at-e.result.low.reg)) refl (λ j. ap field_bytes f) c.push_at-q.ensures)
     (goes_ready exprs reads c.expr_at-e.ensures)
@@ -41,5 +41,5 @@ fn_ret-requires-2 c =
 pub returns : goal.returns
 returns c =
     let f = rw c.prevreg-reg.ensures at c.fields_of-f.ensures in
-    result_front c.args.lbl c.start-p.ensures c.requires.1 c.if-contents-eq0.false
+    result_front c.args.lbl c.start-p.ensures c.requires.contents_value c.if-contents-eq0.false
     c.expr_at-e.ensures f c.push_at-q.ensures c.fn_ret-2.ensures
