@@ -125,6 +125,7 @@ class Turn:
         self.helpers = {}
         self.places_used = set()
         self.goal = None
+        self.cycle = False
 
     def member(self, q, rest):
         """The fields behind a step, in the new form."""
@@ -169,6 +170,10 @@ class Turn:
         if f in ROOT:
             f = {"pre": "requires", "well-formed": "well_formed", "good": "well_formed"}.get(f, f)
             pre = self.n.j.get("pre")
+            if self.cycle and f == "requires" and len(rest) > 1 and rest[1] == "0":
+                return ".".join([var, "requires-raw", "0"] + rest[2:])
+            if self.cycle and f == "requires" and len(rest) > 1 and rest[1] == "1":
+                rest = ["requires"] + rest[2:]
             if f == "requires" and pre and len(rest) > 1 and rest[1].isdigit() and int(rest[1]) < len(pre["fields"]):
                 rest = [rest[0], pre["fields"][int(rest[1])]] + rest[2:]
             return ".".join([var, f] + rest[1:])
@@ -196,7 +201,7 @@ class Turn:
             return ""
 
         text = re.sub(r"let (\w+) = \1\.args in(.*)", lambda m: f"let {m[1]}_args = {m[1]}.args in" + re.sub(rf"(?<![\w.'-]){m[1]}(?![\w'-])", m[1] + "_args", m[2]), text, flags=re.S)
-        text = re.sub(r"let ([\w']+) : tie\.([\w-]+)(?: [a-z][\w-]*-[\w-]+)* = \(?search\)? in\s*", let, text)
+        text = re.sub(r"let ([\w']+) : (?:tie|[\w'-]+-lts)\.([\w-]+)(?: \([^()]*\)| [\w.'-]+)* = \(?search\)? in\s*", let, text)
 
         def one(m):
             h, fs = m[1], m[2][1:].split(".")
@@ -433,6 +438,162 @@ def turn(crate, folder, names, path):
     return None
 
 
+def index_of(path):
+    """The index that 1.1.0 leads to in a tuple."""
+    return path.count("1")
+
+
+def turn_cycle(crate, folder, names, path):
+    p = os.path.join(folder, "Proof.antt")
+    text = open(p, encoding="utf-8").read()
+    uses, items, pending, comments = [], [], [], []
+    for b in blocks(text):
+        if b[0].startswith("use "):
+            uses.append("\n".join(b).strip())
+        elif b[0].startswith("--"):
+            (pending if uses else comments).append("\n".join(b).rstrip())
+        else:
+            items.append((pending, b))
+            pending = []
+    alias = {}
+    for u in uses:
+        m = re.match(r"use \S+\.(Lts(?:-([\w]+))?) as ([\w'-]+)$", u)
+        if m:
+            alias[m[3]] = (m[1], m[2])
+    decls, order = {}, []
+    for pre, b in items:
+        m = re.match(r"((?:abbrev |pub )*)([^\s:]+)", b[0])
+        if m[2] in decls:
+            decls[m[2]]["lines"] += b
+        else:
+            decls[m[2]] = dict(mods=m[1], lines=list(b), pre=pre)
+            order.append(m[2])
+    spec = [x for x in order if re.search(r"\bclose\b", "\n".join(decls[x]["lines"]))]
+    if len(spec) != 1:
+        return f"left: {p}: specs {spec}"
+    st = re.sub(r"\s+", " ", "\n".join(decls[spec[0]]["lines"]))
+    st = st[st.index("close") + 5 :]
+    parts = args_of(st)
+    mus = [a for a in parts if not a.startswith("(")]
+    fns = [a for a in parts if a.startswith("(")]
+    said, used = [], {spec[0], *mus}
+    inv, ans, imp, hs = [], [], set(), {}
+    params = {}
+    for folder2, dirs, fs in os.walk(os.path.join("crates", crate, "src")):
+        for f in fs:
+            for m in re.finditer(r"\bfn (\w+)\s*\(([^)]*)\)", open(os.path.join(folder2, f), encoding="utf-8").read()):
+                params[m[1]] = re.findall(r"(\w+)\s*:", m[2])
+    if len(mus) != len(fns):
+        return f"left: {p}: {len(mus)} measures, {len(fns)} functions"
+    for mu, fn in zip(mus, fns):
+        m = re.match(r"\((?:λ (\w+)\. )?([\w'-]+)\.spec (.*)\)$", fn)
+        if not m or m[2] not in alias:
+            return f"left: {p}: {fn[:80]}"
+        lts, name = alias[m[2]]
+        key = f"Rattle-{crate}-{path}.{lts}"
+        n = Names(names[key])
+        t = Turn(n, p)
+        t.cycle = True
+        stem = n.j["stem"]
+        fname = name or path.split("+")[-1]
+        args = args_of(m[3])[3:]
+        k = len(n.loops)
+        if len(args) != 2 * k + len(n.needs):
+            said.append(f"{fname}: {len(args)} arguments, {k} loops, {len(n.needs)} goals")
+            continue
+        # the measure
+        d = "\n".join(decls[mu]["lines"])
+        mm = re.search(rf"(?m)^{re.escape(mu)} κs (\w+) = (.*)$", d, re.S)
+        ps = params.get(fname, [])
+        body = re.sub(rf"(?<![\w.'-]){mm[1]}((?:\.1)*)\.0((?:\.now)?)(?!\w)", lambda q: "l." + ps[index_of(q[1])] + q[2], mm[2].strip())
+        inv += [f"abbrev pub decreases-{fname} : goal.decreases-{fname}", f"decreases-{fname} l = {body}", ""]
+        for i in range(k):
+            (old, new), vs = n.loops[i]
+            ch = n.j["changed"][i]
+            for j, kind in ((0, "invariant"), (1, "decreases")):
+                a = args[2 * i + j]
+                used.add(a)
+                ls = decls[a]["lines"]
+                eq = "\n".join(ls[1:]).strip("\n")
+                q = re.match(rf"{re.escape(a)}((?: [^\s=]+)*) =", eq)
+                pp = q[1].split()
+                news = ["initial." + v if c else v for v, c in zip(vs, ch)] + [v for v, c in zip(vs, ch) if c]
+                if len(pp) != len(news):
+                    said.append(f"{a}: {len(pp)} arguments, not {len(news)}")
+                mp = {x: "l." + y for x, y in zip(pp, news) if x != "_"}
+                b2 = re.sub(r"(?<![\w.'-])(?:[^\s(){}.;,:@\"«»\[\]`]+)", lambda z: mp.get(z[0], z[0]), eq[q.end() :])
+                nm = f"{kind}-{stem}{new}"
+                inv += [f"abbrev pub {nm} : goal.{nm}", f"{nm} l ={b2}", ""]
+        for i, (old, new) in enumerate(n.needs):
+            a = args[2 * k + i].strip()
+            place = n.asked[i]
+            if SKIP.match(a):
+                continue
+            goal = stem + new
+            q = re.match(r"^\(([\w']+) t\)$", a)
+            nm = q[1] if q else a
+            t.goal = None
+            if nm in decls:
+                used.add(nm)
+                ls = decls[nm]["lines"]
+                sig = 1
+                while sig < len(ls) and ls[sig].startswith((" ", "\t")):
+                    sig += 1
+                eq = "\n".join(ls[sig:]).strip("\n")
+                unf = ""
+                while eq.startswith("unfolding "):
+                    l, eq = eq.split("\n", 1)
+                    unf += l + "\n"
+                q = re.match(rf"{re.escape(nm)} (?:t )?([\w']+)( κs)?((?: [^\s=]+)*) =", eq)
+                if not q:
+                    said.append(f"{nm}: {eq[:60]}")
+                    continue
+                b2 = t.body(eq[q.end() :], place, q[1])
+                ans += decls[nm]["pre"] + [f"pub {goal} : goal.{goal}", f"{unf}{goal} t {q[1]}{q[3]} ={b2}", ""]
+            else:
+                q = re.match(r"^\(λ (\w+)( κs)?\. (.*)\)$", a)
+                if not q:
+                    said.append(f"{goal}: {a[:60]}")
+                    continue
+                ans += [f"pub {goal} : goal.{goal}", f"{goal} t {q[1]} = {t.body(q[3], place, q[1])}", ""]
+        said += [f"{fname}: {x}" for x in t.said]
+    drop = set()
+    for x in order:
+        if x in used:
+            continue
+        ls = "\n".join(decls[x]["lines"])
+        if re.search(r"kinds\.ps|-lts\.Claims|\.Asked|\.Learnt|Measures|In \d|\(and \d", ls):
+            continue
+        hs[x] = decls[x]["pre"] + [ls.rstrip("\n"), ""]
+    keep = [u for u in uses if not re.search(r"\.(Reads|Kinds|Lts[\w-]*) as |borrow\.Fn\.|\{statement\}|\{close\}|borrow\.Author\.Needs", u)]
+    mod = f"Rattle.{crate}.{path}"
+    htext = [l for x in hs for l in hs[x]]
+
+    def cut(us, body):
+        toks = set(TOKEN.findall(re.sub(r"--.*", "", body)))
+        out = []
+        for u in us:
+            m = re.match(r"use ([^\s{]+)\.\{(.*)\}$", u, re.S)
+            if not m:
+                out.append(u)
+                continue
+            ns = []
+            for x in re.split(r",\s*", m[2].strip().rstrip(",")):
+                w = x.strip().split(" as ")[-1]
+                if ("◌" in w and w.replace("◌", "") in body) or w in toks:
+                    ns.append(x.strip())
+            if ns:
+                out.append(f"use {m[1]}.{{{', '.join(ns)}}}")
+        return out
+
+    full = "\n".join(inv)
+    open(os.path.join(folder, "Invariants.antt"), "w", encoding="utf-8").write("\n".join(comments + cut(keep, full) + [f"use {mod}.Given as goal"]) + "\n\n" + full.rstrip("\n") + "\n")
+    full = "\n".join(htext + ans)
+    open(os.path.join(folder, "Answers.antt"), "w", encoding="utf-8").write("\n".join(cut(keep, full) + [f"use {mod}.Goals as goal"]) + "\n\n" + full.rstrip("\n") + "\n")
+    os.remove(p)
+    return ("look: " + p + ": " + "; ".join(said[:12])) if said else None
+
+
 def main(argv):
     names_root = argv[0]
     read_muts()
@@ -448,7 +609,8 @@ def main(argv):
             dirs.sort()
             if "Proof.antt" in fs:
                 path = os.path.relpath(folder, top).replace(os.sep, ".")
-                said = turn(crate, folder, names, path)
+                cycle = os.path.basename(folder).startswith("+")
+                said = (turn_cycle if cycle else turn)(crate, folder, names, path)
                 if said:
                     print(said)
                 else:

@@ -10,15 +10,12 @@ use Rattle.tables.proofs.compute.Goals as goal
 pub functions-requires : goal.functions-requires
 functions-requires c =
     let h = c.requires in
-    let cs = h.1.0 in
+    let cs = h.records.0 in
     let b = c.args.program.now in
-    let e = c.label_table.ensures cs h.1.1 in (
-      (omega (arith, labels_length cs c.args.n b _ h.0.0 e, h.0.0), h.0.1),
-      (
+    let e = c.label_table.ensures cs h.records.1 in record { in_bounds = (omega (arith, labels_length cs c.args.n b _ h.in_bounds.0 e, h.in_bounds.0), h.in_bounds.1); begun = (
         cs,
-        functions_begun cs c.args.n _ (labels_records cs c.args.n b _ h.0.0 e h.0.1 h.1.1) (labels_behind cs c.args.n b _ h.0.0 e ∙ h.0.3),
-      ),
-    )
+        functions_begun cs c.args.n _ (labels_records cs c.args.n b _ h.in_bounds.0 e h.in_bounds.1 h.records.1) (labels_behind cs c.args.n b _ h.in_bounds.0 e ∙ h.in_bounds.3),
+      ) }
 
 pub returns : goal.returns
 returns c cs r =
@@ -26,5 +23,5 @@ returns c cs r =
     let b = c.args.program.now in
     let e = c.label_table.ensures cs r in
     c.functions.ensures cs
-    (functions_begun cs c.args.n _ (labels_records cs c.args.n b _ h.0.0 e h.0.1 r) (labels_behind cs c.args.n b _ h.0.0 e ∙ h.0.3))
+    (functions_begun cs c.args.n _ (labels_records cs c.args.n b _ h.in_bounds.0 e h.in_bounds.1 r) (labels_behind cs c.args.n b _ h.in_bounds.0 e ∙ h.in_bounds.3))
     ∙ ap (λ (d : List ℕ). splice d 34816 (function_bytes cs)) e

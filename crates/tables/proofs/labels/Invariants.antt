@@ -11,7 +11,7 @@ use Rattle.tables.proofs.labels.Given as goal
 abbrev pub invariant-loop-i : goal.invariant-loop-i
 invariant-loop-i l =
     (l.i ≤ l.n) × (length l.program ≡ length l.initial.program)
-    × ((cs : Code) (f : ℕ → Option ℕ) → Begun 32768 1024 cs f l.n l.initial.program → Turned 32768 1024 (labels_go l.was l.i) (λ l. entered cs l l.first 0 (f l)) l.n l.i l.initial.program l.program)
+    × ((cs : Code) (f : ℕ → Option ℕ) → Begun 32768 1024 cs f l.n l.initial.program → Turned 32768 1024 (labels_go l.was l.i) (λ k. entered cs k l.first 0 (f k)) l.n l.i l.initial.program l.program)
 
 abbrev pub decreases-loop-i : goal.decreases-loop-i
 decreases-loop-i l = l.n - l.i

@@ -2,10 +2,11 @@ use native.Mathlib.Nat.{sub-zero}
 use Rattle.ast.proofs.Cuts.{ascending_next, ascending_end, part_end, cut_first, sum_first, cut_none}
 use Rattle.ast.proofs.Scan.{turn, done, sum_next}
 use Rattle.ast.specs.File.{cut, ascending}
-use lib.ListN.{length}
+use lib.ListN.{get_or, length, take, drop}
 use native.Mathlib.Omega.{arith}
-use Prim.Native.Nat.{◌-◌}
-use mathlib.Core.Path.{ap, sym}
+use Prim.Native.Nat.{ℕ, ◌-◌}
+use mathlib.Core.Path.{ap, sym, ◌∙◌}
+use mathlib.Core.List.{◌∷◌}
 use Rattle.lent.specs.Lists.{sum}
 use Rattle.ast.proofs.texts.in_order.Goals as goal
 
@@ -21,7 +22,8 @@ loop-i-init c =
       omega arith,
       omega arith,
       omega (arith, sum_first a.lengths.now (omega arith)),
-      rw sub-zero (ap ascending (cut_first a.lengths.now a.texts.now (omega arith))),
+      ap ascending (cut_first a.lengths.now a.texts.now (omega arith))
+      ∙ ap (λ (k : ℕ). ascending (take k a.texts.now ∷ cut (drop 1 a.lengths.now) (drop (get_or a.lengths.now 0 0) a.texts.now))) (sym (sub-zero (get_or a.lengths.now 0 0))),
     )
 
 pub overflow_cast-end : goal.overflow_cast-end
