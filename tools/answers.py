@@ -165,7 +165,7 @@ class Turn:
             if not i or not self.goal:
                 return ".".join([head] + fields) if not self.goal else var
             self.places_used.add(self.n.places[p]["new"])
-            return f"(goal.at.{self.goal} {var}).{self.n.places[p]['new']}"
+            return f"(goal.at.{self.goal} {'t ' if self.cycle else ''}{var}).{self.n.places[p]['new']}"
         f = rest[0]
         if f in ROOT:
             f = {"pre": "requires", "well-formed": "well_formed", "good": "well_formed"}.get(f, f)
@@ -201,7 +201,15 @@ class Turn:
             return ""
 
         text = re.sub(r"let (\w+) = \1\.args in(.*)", lambda m: f"let {m[1]}_args = {m[1]}.args in" + re.sub(rf"(?<![\w.'-]){m[1]}(?![\w'-])", m[1] + "_args", m[2]), text, flags=re.S)
-        text = re.sub(r"let ([\w']+) : (?:tie|[\w'-]+-lts)\.([\w-]+)(?: \([^()]*\)| [\w.'-]+)* = \(?search\)? in\s*", let, text)
+        text = re.sub(r"let ([\w']+) : (?:[\w']+ )?(?:tie|[\w'-]+-lts)\.([\w-]+)(?: \([^()]*\)| [\w.'-]+)* = \(?search\)? in\s*", let, text)
+
+        # names for places above
+        while True:
+            m = re.search(r"let ([\w']+) = ([\w']+)((?:\.before)+) in\s*", text)
+            if not m or m[2] not in vars_ or vars_[m[2]] not in self.n.places:
+                break
+            vars_[m[1]] = self.n.up(vars_[m[2]], m[3].count(".before")) or "Start"
+            text = text[: m.start()] + text[m.end() :]
 
         def one(m):
             h, fs = m[1], m[2][1:].split(".")
@@ -214,6 +222,18 @@ class Turn:
         for v in vars_:
             if v != var:
                 text = re.sub(rf"(?<![\w.'-]){v}(?![\w'-]|\.)", var, text)
+        return text
+
+    def above(self, text, place, var):
+        """The same in a helper, whose place is below: by as many steps."""
+        for h, pl in self.helpers.items():
+            to = {q["new"]: o for o, q in self.n.places.items()}.get(pl)
+            p, k = place, 0
+            while p and p != to:
+                p = self.n.places[p]["parent"] if p in self.n.places else None
+                k += 1
+            if p and k:
+                text = re.sub(rf"(?<![\w.'-])({re.escape(h)}) (?:\(search\)|{re.escape(var)}(?![\w.'-]))", lambda m: f"{m[1]} {var}" + ".before" * k, text)
         return text
 
     def at(self, text, goal, var):
@@ -371,7 +391,7 @@ def turn(crate, folder, names, path):
 
         if m:
             place = flat(m[2])
-            ls = t.body(ls, place, m[1])
+            ls = t.above(t.body(ls, place, m[1]), place, m[1])
         ls = re.sub(r"tie\.([\w-]+)(?: (?:invariant|decreases)-[\w-]+)*", typ, ls)
         helpers += decls[x]["pre"] + [ls.rstrip("\n"), ""]
     # imports
@@ -446,6 +466,14 @@ def index_of(path):
 def turn_cycle(crate, folder, names, path):
     p = os.path.join(folder, "Proof.antt")
     text = open(p, encoding="utf-8").read()
+    if re.search(r"(?m)^module _ \(t : ℕ\) where$", text):
+        a, b = re.split(r"(?m)^module _ \(t : ℕ\) where$\n", text, maxsplit=1)
+        ls = b.split("\n")
+        i = 0
+        while i < len(ls) and (not ls[i].strip() or ls[i].startswith("  ")):
+            ls[i] = ls[i][2:]
+            i += 1
+        text = a + "\n".join(ls)
     uses, items, pending, comments = [], [], [], []
     for b in blocks(text):
         if b[0].startswith("use "):
@@ -531,8 +559,8 @@ def turn_cycle(crate, folder, names, path):
                 continue
             goal = stem + new
             q = re.match(r"^\(([\w']+) t\)$", a)
+            t.goal = goal
             nm = q[1] if q else a
-            t.goal = None
             if nm in decls:
                 used.add(nm)
                 ls = decls[nm]["lines"]

@@ -12,7 +12,7 @@ code s = first_byte s.args.program.now (16 * s.args.i)
 -- whether the record has an array
 array : (k : After-is_array) → let a = k.args in let f = record_at a.program.now a.i in is_array f.code f.kind ≡ k.is_array.result
 array k =
-    ap₂ (λ (x y : ℕ). is_array x y) (sym (code k)) (sym (byte_of k.args.program.now (16 * k.args.i) 1 (omega arith))) ∙ sym k.is_array.ensures
+    ap₂ (λ (x y : ℕ). is_array x y) (sym (code k.before.before.before.before.before)) (sym (byte_of k.args.program.now (16 * k.args.i) 1 (omega arith))) ∙ sym k.is_array.ensures
 
 pub returns-then-is_array : goal.returns-then-is_array
 returns-then-is_array c = rw (array (goal.at.returns-then-is_array c).After-is_array ∙ c.if-is_array.true) c.entries.ensures

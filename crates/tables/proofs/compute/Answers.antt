@@ -7,6 +7,9 @@ use Rattle.tables.specs.ProgramBytes.{function_bytes}
 use Rattle.tables.specs.laws.EntryLaws.{functions_begun, labels_length, labels_records, labels_behind}
 use Rattle.tables.proofs.compute.Goals as goal
 
+pub label_table-requires-clause-in_bounds : goal.label_table-requires-clause-in_bounds
+label_table-requires-clause-in_bounds c = let h = c.requires.in_bounds in (h.0, h.1, h.2)
+
 pub functions-requires : goal.functions-requires
 functions-requires c =
     let h = c.requires in

@@ -55,14 +55,12 @@ val_from_primary-v-requires c =
 
 pub overflow_add-k : goal.overflow_add-k
 overflow_add-k c =
-    let i = (goal.at.overflow_add-k c).In-loop-i in
-    let p = (begun i).requires.0 in
-    omega (arith, p.0, p.1, i.loop-i-test.true)
+    let p = (begun c).requires.0 in
+    omega (arith, p.0, p.1, c.loop-i-test.true)
 
 pub keep_item-requires : goal.keep_item-requires
 keep_item-requires c =
-    let i = (goal.at.keep_item-requires c).In-loop-i in
-    λ e. omega (arith, (begun i).requires.0.2 e, i.before.loop.invariant.1, i.loop-i-test.true)
+    λ e. omega (arith, (begun c).requires.0.2 e, c.loop-i.invariant.1, c.loop-i-test.true)
 
 pub overflow_add-at : goal.overflow_add-at
 overflow_add-at c =
