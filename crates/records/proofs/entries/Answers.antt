@@ -19,7 +19,7 @@ first g = let a = g.args in g.get_u64.ensures ∙ word_of a.program.now (16 * a.
 
 -- whether they may stand there
 span : (k : After-span_ok) → let a = k.args in let f = record_at a.program.now a.i in span_fits a.most f.len f.word a.next ≡ k.span_ok.result
-span k = rw (← len k.before.before.before.before.before, ← first k.before) (sym k.span_ok.ensures)
+span k = rw (← len k.before.before.before.before.before, ← (k.get_u64.ensures ∙ word_of k.args.program.now (16 * k.args.i) 8 8 (omega arith))) (sym k.span_ok.ensures)
 
 pub overflow_cast-n : goal.overflow_cast-n
 overflow_cast-n c = omega (arith, c.type_inv.program (16 * c.args.i + 7))
