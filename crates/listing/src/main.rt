@@ -1,8 +1,9 @@
 // The listing program (document 01): a tree file from standard input, its listing to standard output.
 #![tactic(auto)]
 
-ghost use Rattle.std.specs.Prelude.{◌≡◌, ◌≤◌, length};
+ghost use Rattle.std.specs.Prelude.{◌≡◌, ◌<◌, ◌≤◌, IfOk, length, take};
 ghost use Rattle.std.specs.Io.{ReadsAtMost};
+ghost use Rattle.std.specs.Io.KnownBytes.{Consumes, IsAtEnd};
 ghost use Rattle.ast.specs.Tree.{Stmts};
 ghost use Rattle.ast.specs.Plain.{plain};
 ghost use Rattle.ast.specs.File.{read_tree, Tree};
@@ -81,7 +82,9 @@ fn write(rt: &impl Print, out: &[u8], k: usize) -> io::Result<()> {
 
 // Reads until the buffer is full or the input ends, and answers how many bytes it put at the buffer's start.
 fn read_full<R: Read>(from: &mut R, buffer: &mut [u8]) -> io::Result<usize>
-    ensures { ReadsAtMost result buffer.new }
+    ensures within { ReadsAtMost result buffer.new }
+    ensures bytes { IfOk result (λ n. Consumes (R.remaining from.old) (R.remaining from.new) (take n buffer.new)) }
+    ensures end { IfOk result (λ n. n < length buffer.new → IsAtEnd (R.remaining from.new)) }
 {
     let mut done = 0;
     while done < buffer.len() {

@@ -428,7 +428,12 @@ fn say(rt: &impl Print, what: &str, counts: &[u64]) -> io::Result<()> {
     line(rt, "every byte as stored", counts, STORED)
 }
 
-fn all(rt: &(impl Files<File = File> + Print), path: &str, programs: bool, what: &str) -> anyhow::Result<()> {
+fn all(
+    rt: &(impl Files<File = File> + Print),
+    path: &str,
+    programs: bool,
+    what: &str,
+) -> anyhow::Result<()> {
     let mut from = File::open(rt, path).context(path)?;
     let mut counts = [0u64; 261];
     records(&mut from, programs, &mut counts).context(path)?;
