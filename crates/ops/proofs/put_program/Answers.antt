@@ -7,7 +7,6 @@ use Rattle.ops.specs.laws.ToldLaws.{accepted}
 use Rattle.ops.specs.laws.TextLaws.{program_lines}
 use Rattle.tables.specs.ProgramBytes.{program_in}
 use Rattle.ops.proofs.put_program.Goals as goal
-use Rattle.ops.proofs.put_program.Goals.{Need-returns}
 
 pub start_of-requires : goal.start_of-requires
 start_of-requires c = c.requires.1
@@ -33,11 +32,14 @@ pub put_table-requires : goal.put_table-requires
 put_table-requires c =
     (put_within c.requires.0 (put_three c.requires.0 c.put_start-p.ensures c.put_code-q.ensures c.put_table-s.ensures), omega arith, omega (arith, c.requires.1))
 
-pub shape_of-out : goal.shape_of-out
-shape_of-out c = put_length c.requires.0 (returns (goal.at.shape_of-out c).Need-returns)
-
 pub returns : goal.returns
 returns c =
     let b = c.args.program.now in
     put_as (program_lines b _ (accepted b _ c.requires.2) (c.start_of.ensures _ c.requires.2) (c.count_of.ensures _ c.requires.2))
     (put_four c.requires.0 c.put_start-p.ensures c.put_code-q.ensures c.put_table-s.ensures c.put_table.ensures)
+
+pub shape_of-out : goal.shape_of-out
+shape_of-out c =
+    let b = c.args.program.now in
+    put_length c.requires.0 (put_as (program_lines b _ (accepted b _ c.requires.2) (c.start_of.ensures _ c.requires.2) (c.count_of.ensures _ c.requires.2))
+    (put_four c.requires.0 c.put_start-p.ensures c.put_code-q.ensures c.put_table-s.ensures c.put_table.ensures))
