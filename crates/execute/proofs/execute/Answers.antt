@@ -58,7 +58,7 @@ meant f e =
 -- the step is the operation that the instruction means
 carried : (s : Start) {o : model.Op} {b' : List ℕ} {r : Step} → op_at (program_in s.args.program.now) s.args.loc.pos ≡ o → Stepped s.args.state.now b' (Machine.execute (program_in s.args.program.now) (view s.args.state.now s.args.loc) o) r
     → Stepped s.args.state.now b' (Machine.step (program_in s.args.program.now) (view s.args.state.now s.args.loc)) r
-carried s e h = step_at _ _ s.args.loc _ s.requires.2 e h
+carried s e h = step_at (program_in s.args.program.now) _ s.args.loc _ s.requires.2 e h
 
 pub binop-got-requires : goal.binop-got-requires
 binop-got-requires c = let m = meant (goal.at.binop-got-requires c).After-fetch-op c.in-Binary.is in (neat (goal.at.binop-got-requires c).Start, m.1, m.2)

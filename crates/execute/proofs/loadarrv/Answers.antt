@@ -12,7 +12,7 @@ use Rattle.execute.proofs.loadarrv.Goals as goal
 use Rattle.execute.proofs.loadarrv.Goals.{After-number_at, Start}
 
 -- the register holds the number
-number_in : (c : After-number_at) → let c = c.before.before.before.before.before in regs_of c.args.state.now c.args.idx ≡ some (One (Num c.number_at.result))
+number_in : (c : After-number_at) → regs_of c.args.state.now c.args.idx ≡ some (One (Num c.number_at.result))
 number_in c =
     sym (reg_value _ c.requires.0 _ c.requires.2 c.reg-at.ensures) ∙ c.number_at.ensures
 

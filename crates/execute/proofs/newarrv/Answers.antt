@@ -11,17 +11,12 @@ use Rattle.execute.specs.declared.Did.TheVariants as did
 use Rattle.execute.proofs.newarrv.Goals as goal
 use Rattle.execute.proofs.newarrv.Goals.{After-number_at, Else-kind_at-eq0, Start}
 
--- the start, seen from behind the number
-abbrev start : After-number_at → Start
-start c = c.before.before.before.before.before.before.before.before.before.before.before
-
 -- the one register holds the number, the other something
-number_in : (c : After-number_at) → regs_of (start c).args.state.now (start c).args.idx ≡ some (One (Num c.number_at.result))
+number_in : (c : After-number_at) → regs_of c.args.state.now c.args.idx ≡ some (One (Num c.number_at.result))
 number_in c =
-    let s = start c in
-    sym (reg_value _ s.pre.0 _ s.pre.2 c.reg-at.ensures) ∙ c.number_at.ensures
+    sym (reg_value _ c.requires.0 _ c.requires.2 c.reg-at.ensures) ∙ c.number_at.ensures
 
-value_in : (c : Else-kind_at-eq0) → let c = c.before.before.before.before.before.before.before.before.before in kind_in (seen (regs_of c.args.state.now c.args.val)) ≡ 0 → ⊥
+value_in : (c : Else-kind_at-eq0) → kind_in (seen (regs_of c.args.state.now c.args.val)) ≡ 0 → ⊥
 value_in c z =
     c.if-kind_at-eq0.false ((c.kind_at-2.ensures ∙ ap (λ (o : Option Value). kind_in (seen o)) (reg_value _ c.requires.0 _ c.requires.3 c.reg.ensures)) ∙ z)
 
@@ -51,10 +46,10 @@ update-requires c =
 
 pub returns-in-At : goal.returns-in-At
 returns-in-At c =
-    let s = start (goal.at.returns-in-At c).After-number_at in
+    let s = (goal.at.returns-in-At c).Start in
     newarrv_at s.args.state.now s.args.name (regs_of s.args.state.now s.args.idx) (regs_of s.args.state.now s.args.val) (number_in (goal.at.returns-in-At c).After-number_at) (told_at _ c.index_of.ensures c.in-At.is) c.update.ensures
 
 pub returns-in-None : goal.returns-in-None
 returns-in-None c =
-    let s = start (goal.at.returns-in-None c).After-number_at in
+    let s = (goal.at.returns-in-None c).Start in
     newarrv_no_index s.args.state.now s.args.name (regs_of s.args.state.now s.args.idx) (regs_of s.args.state.now s.args.val) (number_in (goal.at.returns-in-None c).After-number_at) (told_none _ c.index_of.ensures c.in-None.is) (value_in (goal.at.returns-in-None c).Else-kind_at-eq0) (ap did.Err c.no_index.ensures) refl

@@ -1,7 +1,7 @@
 use mathlib.Core.Path.{refl, ◌∙◌}
-use Prim.Native.Nat.{◌+◌, ◌-◌, ◌*◌}
+use Prim.Native.Nat.{◌+◌, ◌*◌}
 use native.Mathlib.Omega.{arith}
-use lib.ListN.{length, drop, set, length-set}
+use lib.ListN.{drop, set, length-set}
 use Rattle.opc.specs.Record.{item_list}
 use Rattle.execute.specs.inner.View.{pool_of, or_none}
 use Rattle.execute.specs.laws.Literals.{pool_entry, items_length, fill_start, fill_turn, fill_end}

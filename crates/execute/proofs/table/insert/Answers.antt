@@ -89,10 +89,10 @@ insert_new-requires c =
     let f = reg_formed _ p.0 _ p.3 r in
     let o = table_kind _ p.0 _ p.1 e p.5 in
     let v = single_kind_lem _ p.0 _ p.3 r p.6 p.7 in
-    let absent = sym c.has_key.ensures ∙ c.if-has_key.false in (
-      (t.0, f.0, omega (arith, e, r), t.1, o, c.len_at-n.ensures, c.if-n-ge-TABLE_ITEMS.false),
-      (c.key_place-i.ensures, absent, p.2, f.1, v.0, v.1),
-    )
+    let absent = sym c.has_key.ensures ∙ c.if-has_key.false in record {
+      at_in_bounds = (t.0, f.0, omega (arith, e, r), t.1, o, c.len_at-n.ensures, c.if-n-ge-TABLE_ITEMS.false);
+      i_value = (c.key_place-i.ensures, absent, p.2, f.1, v.0, v.1);
+    }
 
 pub returns : goal.returns
 returns c =
