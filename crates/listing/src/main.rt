@@ -88,11 +88,11 @@ fn read_full<R: Read>(from: &mut R, buffer: &mut [u8]) -> io::Result<usize>
 {
     let mut done = 0;
     while done < buffer.len() {
-        let n = from.read(&mut buffer[done..])?;
-        if n == 0 {
+        let got = from.read(&mut buffer[done..])?;
+        if got == 0 {
             return Ok(done);
         }
-        done += n;
+        done += got;
     }
     Ok(done)
 }

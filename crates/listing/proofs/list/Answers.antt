@@ -10,7 +10,7 @@ use Rattle.listing.proofs.list.Goals as goal
 use Rattle.listing.proofs.list.Goals.{After-run-b}
 
 -- what the calls leave of an accepted file
-made : (k : After-run-b) → let k = k.before.before.before.before.before.before.before.before.before.before.before.before in Made k.args.file.now k.lower-n.new.program k.run-b.new.state k.run-b.new.report
+made : (k : After-run-b) → Made k.args.file.now k.lower-n.new.program k.run-b.new.state k.run-b.new.report
 made k =
     calls_made k.args.file.now k.args.program.now k.args.state.now k.args.report.now (each_of k.args.file.now 0 (λ i h. omega (arith, k.type_inv.file i)))
     k.requires.0 k.requires.1 k.requires.2 k.lower-n.ensures k.if-n-ne0.false k.start-a.ensures k.run-b.ensures

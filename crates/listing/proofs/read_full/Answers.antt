@@ -16,5 +16,5 @@ take-put_mid_part a k n xs ys within fits =
 pub loop-done-preserved : goal.loop-done-preserved
 loop-done-preserved g c =
     let room = length c.loop-done.buffer - c.loop-done.done in
-    let front = take-put_mid_part c.loop-done.done room c.in_ok-n.n c.loop-done.buffer c.read.new.buf c.loop-done.invariant.0 c.in_ok-n.ensures.bound.0 in
-    (search rules, subst (Consumes _ _) (sym front) (Consumes-trans _ _ _ _ _ c.loop-done.invariant.1 c.in_ok-n.ensures.bytes.0))
+    let front = take-put_mid_part c.loop-done.done room c.in_ok-got.got c.loop-done.buffer c.read.new.buf c.loop-done.invariant.0 c.in_ok-got.ensures.bound.0 in
+    (search rules, subst (Consumes _ _) (sym front) (Consumes-trans _ _ _ _ _ c.loop-done.invariant.1 c.in_ok-got.ensures.bytes.0))

@@ -6,4 +6,4 @@ use Rattle.report.proofs.line.Goals as goal
 pub returns : goal.returns
 returns c =
     let a = c.args in
-    line_law a.start a.pos c.wrapping_sub_u64.result c.requires.0 c.requires.1 (omega arith) c.wrapping_sub_u64.ensures
+    line_law a.start a.pos c.wrapping_sub_u64.result c.requires.0 c.requires.1 (omega arith) c.wrapping_sub_u64.ensures.value
