@@ -284,21 +284,46 @@ def turn(crate, folder, names, path):
     args = args_of(re.sub(r"\s+", " ", st))
     k = len(n.loops)
     if len(args) != 2 * k + len(n.needs):
-        # goals that are gone or new: by the goal's name
-        by = {}
-        for a in args[2 * k :]:
-            if a in decls:
-                sig = re.search(r"tie\.Need-([\w-]+)", " ".join(decls[a]["lines"][:2]))
-                if sig:
-                    by[flat(sig[1])] = a
-            elif not SKIP.match(a):
-                t.said.append(f"dropped {a[:100]}")
-        found = []
-        for old, new in n.needs:
-            a = by.pop(flat(old), None) or by.pop(flat(new), None)
-            found.append(a or "(λ c. search rules)")
-        if by:
-            return f"left: {p}: {len(args)} arguments, {k} loops, {len(n.needs)} goals; {sorted(by)} among {[x[1] for x in n.needs]}"
+        # goals that the check now settles by itself: what is left is told apart by calls and by names
+        rest = args[2 * k :]
+
+        def call_of(a):
+            text_ = " ".join(decls[a]["lines"]) if a in decls else a
+            return bool(re.search(r"\bκs\b", text_))
+
+        def sig_of(a):
+            q = a in decls and re.search(r"tie\.Need-([\w-]+)", " ".join(decls[a]["lines"][:2]))
+            return q and flat(q[1])
+
+        def fits(a, need):
+            old, new = need
+            if call_of(a) != bool(re.search(r"-requires(-|$)", new)):
+                return False
+            return sig_of(a) in (None, False) or sig_of(a) in (flat(old), flat(new)) or not a
+
+        memo = {}
+
+        def best(i, j):
+            if (i, j) not in memo:
+                if i == len(rest):
+                    memo[i, j] = (0, []) if j == len(n.needs) else None
+                else:
+                    ways = []
+                    if j < len(n.needs) and fits(rest[i], n.needs[j]):
+                        w = best(i + 1, j + 1)
+                        if w:
+                            ways.append((w[0], [rest[i]] + w[1]))
+                    if SKIP.match(rest[i]) and not call_of(rest[i]):
+                        w = best(i + 1, j)
+                        if w:
+                            ways.append((w[0] + (0 if i + 1 < len(rest) and call_of(rest[i + 1]) else 1), w[1]))
+                    memo[i, j] = min(ways, key=lambda w: w[0]) if ways else None
+            return memo[i, j]
+
+        got = best(0, 0)
+        if not got:
+            return f"left: {p}: {len(args)} arguments, {k} loops, {len(n.needs)} goals: {[x[1] for x in n.needs]}"
+        found = got[1]
         args = args[: 2 * k] + found
     inv, ans, used = [], [], {spec[0]}
     # invariants and measures

@@ -1,7 +1,9 @@
 // The listing program (document 01): a tree file from standard input, its listing to standard output.
 #![tactic(auto)]
 
-ghost use Rattle.std.specs.Prelude.{◌≡◌, ◌≤◌, length};
+ghost use Rattle.std.specs.Prelude.{◌≡◌, ◌<◌, ◌≤◌, IfOk, length, take};
+ghost use Rattle.std.specs.Io.{ReadsAtMost};
+ghost use Rattle.std.specs.Io.KnownBytes.{Consumes, IsAtEnd};
 ghost use Rattle.ast.specs.Tree.{Stmts};
 ghost use Rattle.ast.specs.Plain.{plain};
 ghost use Rattle.ast.specs.File.{read_tree, Tree};
@@ -10,6 +12,10 @@ ghost use Rattle.compiler.specs.Lower.{lower, lowered};
 ghost use Rattle.walk.specs.Bound.{bound};
 ghost use Rattle.text.specs.Put.{Put};
 ghost use Rattle.listing_text.specs.Listing.{bound_line, refused_text, listing};
+
+use anyhow::Context;
+use std::io;
+use std::io::Read;
 
 fn put_refused(out: &mut [u8], at: usize, n: u64) -> usize
     requires { at ≤ length out.old }
@@ -66,29 +72,45 @@ fn listing(file: &[u8], out: &mut [u8]) -> usize
     list(file, &mut program, &mut state, &mut report, out)
 }
 
-// The first k bytes to standard output, or a word on standard error.
-fn write(out: &[u8], k: usize) {
+// The first k bytes to standard output.
+fn write(rt: &impl Print, out: &[u8], k: usize) -> io::Result<()> {
     if k <= out.len() {
-        if !io::write_all(1, &out[0..k]) {
-            os::fail(b"listing: cannot write");
-        }
+        return rt.write_all(&out[0..k]);
     }
+    Ok(())
 }
 
-// Whether standard input can be read on: at its end it can, behind a failed read it cannot.
-fn reads_on() -> bool {
+// Reads until the buffer is full or the input ends, and answers how many bytes it put at the buffer's start.
+fn read_full<R: Read>(from: &mut R, buffer: &mut [u8]) -> io::Result<usize>
+    ensures within { ReadsAtMost result buffer.new }
+    ensures bytes { IfOk result (λ n. Consumes (R.remaining from.old) (R.remaining from.new) (take n buffer.new)) }
+    ensures end { IfOk result (λ n. n < length buffer.new → IsAtEnd (R.remaining from.new)) }
+{
+    let mut done = 0;
+    while done < buffer.len() {
+        let n = from.read(&mut buffer[done..])?;
+        if n == 0 {
+            return Ok(done);
+        }
+        done += n;
+    }
+    Ok(done)
+}
+
+// Reads on: at its end standard input can be read, behind a failed read it cannot.
+fn reads_on<R: Read>(from: &mut R) -> io::Result<()> {
     let mut more = [0u8; 1];
-    0 <= libc::read(0, &mut more)
+    let _ = from.read(&mut more)?;
+    Ok(())
 }
 
-fn main() {
+fn main(rt: HostRuntime) -> anyhow::Result<()> {
     let mut file = [0u8; 16384];
     let mut out = [0u8; 131072];
-    let n = io::read_full(0, &mut file);
-    if !reads_on() {
-        os::fail(b"listing: cannot read");
-        return;
-    }
+    let mut input = rt.stdin();
+    let n = read_full(&mut input, &mut file).context("listing: cannot read")?;
+    reads_on(&mut input).context("listing: cannot read")?;
     let k = listing(&file[..n], &mut out);
-    write(&out, k);
+    write(&rt, &out, k).context("listing: cannot write")?;
+    Ok(())
 }

@@ -2,8 +2,14 @@
 #![tactic(auto)]
 
 ghost use Rattle.std.specs.Prelude.{◌+◌, ◌*◌, ◌<◌, ◌≤◌, length};
+ghost use Rattle.std.specs.Io.{ReadsAtMost};
 
+use anyhow::Context;
 use call_list::Last;
+use std::fs::File;
+use std::io;
+use std::io::Read;
+use std::rt::Files;
 
 // The steps that a file's program is given.
 const STEPS: u64 = 100000;
@@ -274,40 +280,55 @@ fn stored_program(bytes: &[u8], stored: u64, counts: &mut [u64]) {
 
 // ---- records
 
-// The next length in a list; too long for any buffer where the list has ended.
-fn next_length(fd: i32) -> u64 {
-    let mut head = [0u8; 4];
-    let n = io::read_full(fd, &mut head);
-    if n < 4 {
-        return 4294967295;
+// Reads until the buffer is full or the list ends; answers how many bytes it put at the buffer's start.
+fn read_full<R: Read>(from: &mut R, buffer: &mut [u8]) -> io::Result<usize>
+    ensures { ReadsAtMost result buffer.new }
+{
+    let mut done = 0;
+    while done < buffer.len() {
+        let n = from.read(&mut buffer[done..])?;
+        if n == 0 {
+            return Ok(done);
+        }
+        done += n;
     }
-    lent::get_u32(&head, 0)
+    Ok(done)
+}
+
+// The next length in a list; too long for any buffer where the list has ended.
+fn next_length(from: &mut File) -> io::Result<u64> {
+    let mut head = [0u8; 4];
+    let n = read_full(from, &mut head)?;
+    if n < 4 {
+        return Ok(4294967295);
+    }
+    Ok(lent::get_u32(&head, 0))
 }
 
 // Whether n bytes were there, and fit.
-fn fill(fd: i32, buffer: &mut [u8], n: u64) -> bool {
+fn fill(from: &mut File, buffer: &mut [u8], n: u64) -> io::Result<bool> {
     let most = buffer.len() as u64;
     if most < n {
-        return false;
+        return Ok(false);
     }
     let k = n as usize;
-    io::read_full(fd, &mut buffer[0..k]) == k
+    Ok(read_full(from, &mut buffer[0..k])? == k)
 }
 
 // Whether the n bytes of an answer in words were there.
-fn skip(fd: i32, n: u64) -> bool {
+fn skip(from: &mut File, n: u64) -> io::Result<bool> {
     let mut words = [0u8; 32768];
-    fill(fd, &mut words, n)
+    fill(from, &mut words, n)
 }
 
 // The next checksum; 0 where the list has ended.
-fn next_sum(fd: i32) -> u64 {
+fn next_sum(from: &mut File) -> io::Result<u64> {
     let mut sum = [0u8; 8];
-    let n = io::read_full(fd, &mut sum);
+    let n = read_full(from, &mut sum)?;
     if n < 8 {
-        return 0;
+        return Ok(0);
     }
-    lent::get_u64(&sum, 0)
+    Ok(lent::get_u64(&sum, 0))
 }
 
 // The file or program in the first n bytes.
@@ -325,29 +346,31 @@ fn given(bytes: &[u8], n: u64, programs: bool, stored: u64, counts: &mut [u64]) 
 }
 
 // The next record of a list, where there is one: the file or program, the answer in words, the checksum.
-fn record(fd: i32, programs: bool, counts: &mut [u64]) -> bool {
+fn record(from: &mut File, programs: bool, counts: &mut [u64]) -> io::Result<bool> {
     let mut bytes = [0u8; 32768];
-    let n = next_length(fd);
-    if !fill(fd, &mut bytes, n) {
-        return false;
+    let n = next_length(from)?;
+    if !fill(from, &mut bytes, n)? {
+        return Ok(false);
     }
-    if !skip(fd, next_length(fd)) {
-        return false;
+    let words = next_length(from)?;
+    if !skip(from, words)? {
+        return Ok(false);
     }
-    let sum = next_sum(fd);
+    let sum = next_sum(from)?;
     count(counts, RECORDS, 1);
     given(&bytes, n, programs, sum, counts);
-    true
+    Ok(true)
 }
 
-fn records(fd: i32, programs: bool, counts: &mut [u64]) {
+fn records(from: &mut File, programs: bool, counts: &mut [u64]) -> io::Result<()> {
     let mut left: u64 = 1000000;
     while left > 0 {
-        if !record(fd, programs, counts) {
-            return;
+        if !record(from, programs, counts)? {
+            return Ok(());
         }
         left -= 1;
     }
+    Ok(())
 }
 
 // ---- printing
@@ -360,96 +383,87 @@ fn number_of(counts: &[u64], at: usize) -> u64 {
 }
 
 // An answer in words.
-fn words(at: usize) {
+fn words(rt: &impl Print, at: usize) -> io::Result<()> {
     if at == 0 {
-        io::write_all(1, b"done");
-        return;
+        return print!(rt; "done");
     }
     if (at < 11) | (at == 39) {
-        io::write_all(1, b"refused ");
-        io::print_decimal(1, at as u64);
-        return;
+        return print!(rt; "refused {at}");
     }
     if at == 11 {
-        io::write_all(1, b"spent");
-        return;
+        return print!(rt; "spent");
     }
-    io::write_all(1, b"stopped ");
-    io::print_decimal(1, at as u64);
+    print!(rt; "stopped {at}")
 }
 
-fn line(what: &[u8], counts: &[u64], at: usize) {
-    io::write_all(1, what);
-    io::write_all(1, b": ");
-    io::print_decimal(1, number_of(counts, at));
-    io::write_all(1, b"\n");
+fn line(rt: &impl Print, what: &str, counts: &[u64], at: usize) -> io::Result<()> {
+    let n = number_of(counts, at);
+    println!(rt; "{what}: {n}")
 }
 
 // The count of an answer, where it was given.
-fn answer_line(counts: &[u64], at: usize) {
+fn answer_line(rt: &impl Print, counts: &[u64], at: usize) -> io::Result<()> {
     if number_of(counts, at) == 0 {
-        return;
+        return Ok(());
     }
-    words(at);
-    line(b"", counts, at);
+    words(rt, at)?;
+    line(rt, "", counts, at)
 }
 
-fn answer_lines(counts: &[u64]) {
+fn answer_lines(rt: &impl Print, counts: &[u64]) -> io::Result<()> {
     let mut at = 0;
     while at < RECORDS {
-        answer_line(counts, at);
+        answer_line(rt, counts, at)?;
         at += 1;
     }
+    Ok(())
 }
 
-fn say(what: &[u8], counts: &[u64]) {
-    line(what, counts, RECORDS);
-    answer_lines(counts);
-    line(b"steps", counts, TAKEN);
-    line(b"names held", counts, HELD);
-    line(b"in portions as in one run", counts, PORTIONS);
-    line(b"every byte as stored", counts, STORED);
+fn say(rt: &impl Print, what: &str, counts: &[u64]) -> io::Result<()> {
+    line(rt, what, counts, RECORDS)?;
+    answer_lines(rt, counts)?;
+    line(rt, "steps", counts, TAKEN)?;
+    line(rt, "names held", counts, HELD)?;
+    line(rt, "in portions as in one run", counts, PORTIONS)?;
+    line(rt, "every byte as stored", counts, STORED)
 }
 
-fn all(path: &[u8], programs: bool, what: &[u8]) {
-    let fd = os::open_read(path);
-    if fd < 0 {
-        os::fail(path);
-        return;
-    }
+fn all(
+    rt: &(impl Files<File = File> + Print),
+    path: &str,
+    programs: bool,
+    what: &str,
+) -> anyhow::Result<()> {
+    let mut from = File::open(rt, path).context(path)?;
     let mut counts = [0u64; 261];
-    records(fd, programs, &mut counts);
-    libc::close(fd);
-    say(what, &counts);
+    records(&mut from, programs, &mut counts).context(path)?;
+    drop(from);
+    say(rt, what, &counts)?;
+    Ok(())
 }
 
 // The next file alone, by its name.
-fn case(fd: i32, what: &[u8]) {
+fn case(rt: &impl Print, from: &mut File, what: &str) -> io::Result<()> {
     let mut counts = [0u64; 261];
-    record(fd, false, &mut counts);
-    io::write_all(1, what);
-    io::write_all(1, b", ");
-    answer_lines(&counts);
+    record(from, false, &mut counts)?;
+    print!(rt; "{what}, ")?;
+    answer_lines(rt, &counts)
 }
 
 // Document 01's cases 9 to 11, which come first.
-fn cases(path: &[u8]) {
-    let fd = os::open_read(path);
-    if fd < 0 {
-        os::fail(path);
-        return;
-    }
-    case(fd, b"24 items");
-    case(fd, b"25 items");
-    case(fd, b"96 registers");
-    case(fd, b"97 registers");
-    case(fd, b"call depth 24");
-    case(fd, b"call depth 25");
-    libc::close(fd);
+fn cases(rt: &(impl Files<File = File> + Print), path: &str) -> anyhow::Result<()> {
+    let mut from = File::open(rt, path).context(path)?;
+    case(rt, &mut from, "24 items")?;
+    case(rt, &mut from, "25 items")?;
+    case(rt, &mut from, "96 registers")?;
+    case(rt, &mut from, "97 registers")?;
+    case(rt, &mut from, "call depth 24")?;
+    case(rt, &mut from, "call depth 25")?;
+    Ok(())
 }
 
-fn main() {
-    cases(b"cases.bin");
-    all(b"cases.bin", false, b"files");
-    all(b"programs.bin", true, b"programs");
+fn main(rt: HostRuntime) -> anyhow::Result<()> {
+    cases(&rt, "cases.bin")?;
+    all(&rt, "cases.bin", false, "files")?;
+    all(&rt, "programs.bin", true, "programs")
 }

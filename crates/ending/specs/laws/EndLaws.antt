@@ -55,13 +55,15 @@ module _ {out : List ℕ} {at : ℕ} (h : at ≤ length out) where
       → Put out₄ r₄ (number_fields (take (detail_count n) (be_value (part b 16 8) ∷ (be_value (part b 24 8) ∷ (be_value (part b 32 8) ∷ []))))) out₅ r₅ → Put out₅ r₅ (ascii "\n") out₆ r₆
       → Put out at (stop_in b k) out₆ r₆
   stop_put b k {n} {w} e f p1 p2 p3 p4 p5 p6 =
+      let c = get_or b 1 0 in
+      let l = be_value (part b 8 8) in
       let ds = be_value (part b 16 8) ∷ (be_value (part b 24 8) ∷ (be_value (part b 32 8) ∷ [])) in
       let s = ascii "stopped" in
       let q2 = put_field h (ascii "end") (s ∷ []) p1 p2 in
-      let q3 = put_field h (ascii "end") (s ∷ (decimal k ∷ [])) q2 p3 in
-      let q4 = put_field h (ascii "end") (s ∷ (decimal k ∷ (decimal n ∷ []))) q3 p4 in
-      let q5 = put_fields h (ascii "end") (s ∷ (decimal k ∷ (decimal n ∷ (signed (signed_of w) ∷ [])))) (take (detail_count n) ds) q4 p5 in
-      rw (← e, ← f) (put_end h (ascii "end" ∷ (s ∷ (decimal k ∷ (decimal n ∷ (signed (signed_of w) ∷ map decimal (take (detail_count n) ds)))))) q5 p6)
+      let q3 = put_field h (ascii "end") (s ∷ (decimal k ∷ [])) q2 (rw e at p3) in
+      let q4 = put_field h (ascii "end") (s ∷ (decimal k ∷ (decimal c ∷ []))) q3 (rw f at p4) in
+      let q5 = put_fields h (ascii "end") (s ∷ (decimal k ∷ (decimal c ∷ (signed (signed_of l) ∷ [])))) (take (detail_count c) ds) q4 (rw e at p5) in
+      put_end h (ascii "end" ∷ (s ∷ (decimal k ∷ (decimal c ∷ (signed (signed_of l) ∷ map decimal (take (detail_count c) ds)))))) q5 p6
 
   -- what the slot of a name shows, v, and its kind
   module _ (x : ℕ) (o : Option Value) {v : SifVal} {k : ℕ} (e : v ≡ seen o) (f : k ≡ kind_in v) where

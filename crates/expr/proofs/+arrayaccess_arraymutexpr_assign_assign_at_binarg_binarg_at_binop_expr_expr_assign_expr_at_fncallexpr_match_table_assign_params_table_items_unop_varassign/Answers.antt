@@ -17,23 +17,20 @@ use Rattle.expr.proofs.+arrayaccess_arraymutexpr_assign_assign_at_binarg_binarg_
 
 pub arrayaccess-bounds-bodies-0 : goal.arrayaccess-bounds-bodies-0
 arrayaccess-bounds-bodies-0 t c =
-    omega (arith, (acc_asks c.requires).body)
+    omega (arith, (acc_asks (c.requires.reads, c.requires.contents_value)).body)
 
 pub arrayaccess-expr_at-a-requires : goal.arrayaccess-expr_at-a-requires
 arrayaccess-expr_at-a-requires t c =
-    let p = c.requires in
-    one_asks (acc_asks p) p.0.ready c.start-p.ensures 4 c.requires-raw.0 (omega arith)
+    one_asks (acc_asks (c.requires.reads, c.requires.contents_value)) c.requires.reads.ready c.start-p.ensures 4 (omega arith) (omega arith)
 
 pub arrayaccess-load_at-d-requires : goal.arrayaccess-load_at-d-requires
 arrayaccess-load_at-d-requires t c =
-    let p = c.requires in
-    one_ready (acc_asks p) p.0.ready c.start-p.ensures c.expr_at-a.ensures
+    one_ready (acc_asks (c.requires.reads, c.requires.contents_value)) c.requires.reads.ready c.start-p.ensures c.expr_at-a.ensures
 
 pub arrayaccess-push_at-requires : goal.arrayaccess-push_at-requires
 arrayaccess-push_at-requires t c =
-    let p = c.requires in
     let f = rw c.prevreg.ensures at c.fields_of-f.ensures in
-    acc_loads p p.0.ready c.start-p.ensures c.expr_at-a.ensures f c.load_at-d.ensures
+    acc_loads (c.requires.reads, c.requires.contents_value) c.requires.reads.ready c.start-p.ensures c.expr_at-a.ensures f c.load_at-d.ensures
 
 pub arrayaccess-shape_of-out : goal.arrayaccess-shape_of-out
 arrayaccess-shape_of-out t c =
@@ -41,76 +38,69 @@ arrayaccess-shape_of-out t c =
 
 pub arrayaccess-returns : goal.arrayaccess-returns
 arrayaccess-returns t c =
-    let p = c.requires in
     let f = rw c.prevreg.ensures at c.fields_of-f.ensures in
     let g = rw c.prevreg-2.ensures at c.fields_of-g.ensures in
-    acc_front p.1 (λ a i h. acc_made h p.0.ready c.start-p.ensures c.expr_at-a.ensures f
+    acc_front c.requires.contents_value (λ a i h. acc_made h c.requires.reads.ready c.start-p.ensures c.expr_at-a.ensures f
     c.load_at-d.ensures g c.push_at.ensures)
 
 pub arraymutexpr-bounds-bodies-0 : goal.arraymutexpr-bounds-bodies-0
 arraymutexpr-bounds-bodies-0 t c =
-    omega (arith, mut_roomb (mut_asks c.requires).3)
+    omega (arith, mut_roomb (mut_asks (c.requires.reads, c.requires.contents_value)).3)
 
 pub arraymutexpr-slice_bounds-skip-count : goal.arraymutexpr-slice_bounds-skip-count
 arraymutexpr-slice_bounds-skip-count t c =
-    omega (arith, mut_room (mut_asks c.requires).3)
+    omega (arith, mut_room (mut_asks (c.requires.reads, c.requires.contents_value)).3)
 
 pub arraymutexpr-slice_bounds-skip-start : goal.arraymutexpr-slice_bounds-skip-start
 arraymutexpr-slice_bounds-skip-start t c =
-    omega (arith, mut_room (mut_asks c.requires).3)
+    omega (arith, mut_room (mut_asks (c.requires.reads, c.requires.contents_value)).3)
 
 pub arraymutexpr-slice_bounds-skip-count-2 : goal.arraymutexpr-slice_bounds-skip-count-2
 arraymutexpr-slice_bounds-skip-count-2 t c =
-    omega (arith, mut_roomb (mut_asks c.requires).3)
+    omega (arith, mut_roomb (mut_asks (c.requires.reads, c.requires.contents_value)).3)
 
 pub arraymutexpr-slice_bounds-skip-start-2 : goal.arraymutexpr-slice_bounds-skip-start-2
 arraymutexpr-slice_bounds-skip-start-2 t c =
-    omega (arith, mut_roomb (mut_asks c.requires).3)
+    omega (arith, mut_roomb (mut_asks (c.requires.reads, c.requires.contents_value)).3)
 
 pub arraymutexpr-skip-s-requires : goal.arraymutexpr-skip-s-requires
 arraymutexpr-skip-s-requires t c =
-    let p = c.requires in
-    let h = mut_asks p in
+    let h = mut_asks (c.requires.reads, c.requires.contents_value) in
     (h.1, mut_skips h.3)
 
 pub arraymutexpr-overflow_add-s : goal.arraymutexpr-overflow_add-s
 arraymutexpr-overflow_add-s t c =
-    let p = c.requires in
-    let h = mut_asks p in
+    let h = mut_asks (c.requires.reads, c.requires.contents_value) in
     let e = c.skip-s.ensures h.1 (mut_skips h.3) in
     omega (arith, e.0, mut_room h.3)
 
 pub arraymutexpr-overflow_add-s-2 : goal.arraymutexpr-overflow_add-s-2
 arraymutexpr-overflow_add-s-2 t c =
-    let p = c.requires in
-    let h = mut_asks p in
+    let h = mut_asks (c.requires.reads, c.requires.contents_value) in
     let e = c.skip-s.ensures h.1 (mut_skips h.3) in
     omega (arith, e.1, mut_roomb h.3)
 
 pub arraymutexpr-expr_at-v-requires : goal.arraymutexpr-expr_at-v-requires
 arraymutexpr-expr_at-v-requires t c =
-    let p = c.requires in
-    let h = mut_asks p in
+    let h = mut_asks (c.requires.reads, c.requires.contents_value) in
     let e = c.skip-s.ensures h.1 (mut_skips h.3) in
     let d = c.start-p.ensures in
-    (omega (arith, c.requires-raw.0, mut_room h.3, e.0, ap (λ (d : Done). d.cont) d), mut_reads₁ h.3 p.0.ready e.0 e.1 d)
+    (omega (arith, mut_room h.3, e.0, ap (λ (d : Done). d.cont) d), mut_reads₁ h.3 c.requires.reads.ready e.0 e.1 d)
 
 pub arraymutexpr-expr_at-i-requires : goal.arraymutexpr-expr_at-i-requires
 arraymutexpr-expr_at-i-requires t c =
-    let p = c.requires in
-    let h = mut_asks p in
+    let h = mut_asks (c.requires.reads, c.requires.contents_value) in
     let e = c.skip-s.ensures h.1 (mut_skips h.3) in
     let d = c.start-q.ensures in (
-      omega (arith, c.requires-raw.0, mut_room h.3, ap (λ (d : Done). d.cont) d),
-      mut_reads₂ h.3 p.0.ready e.0 e.1 c.start-p.ensures c.expr_at-v.ensures c.below.ensures d,
+      omega (arith, mut_room h.3, ap (λ (d : Done). d.cont) d),
+      mut_reads₂ h.3 c.requires.reads.ready e.0 e.1 c.start-p.ensures c.expr_at-v.ensures c.below.ensures d,
     )
 
 pub arraymutexpr-push_op-u-requires : goal.arraymutexpr-push_op-u-requires
 arraymutexpr-push_op-u-requires t c =
-    let p = c.requires in
-    let h = mut_asks p in
+    let h = mut_asks (c.requires.reads, c.requires.contents_value) in
     let e = c.skip-s.ensures h.1 (mut_skips h.3) in
-    mut_ready₃ h.3 p.0.ready e.0 e.1 c.start-p.ensures c.expr_at-v.ensures
+    mut_ready₃ h.3 c.requires.reads.ready e.0 e.1 c.start-p.ensures c.expr_at-v.ensures
     c.below.ensures c.start-q.ensures c.expr_at-i.ensures
 
 pub arraymutexpr-shape_of-out : goal.arraymutexpr-shape_of-out
@@ -131,21 +121,21 @@ assign-bounds-contents-0 t c =
 
 pub assign-match_table_assign-requires : goal.assign-match_table_assign-requires
 assign-match_table_assign-requires t c =
-    (omega (arith, c.requires-raw.0), (c.requires, c.if-kind-eq-KIND_TABLE.true))
+    (omega arith, (c.requires, c.if-kind-eq-KIND_TABLE.true))
 
 pub assign-returns-then-kind-eq-KIND_TABLE : goal.assign-returns-then-kind-eq-KIND_TABLE
 assign-returns-then-kind-eq-KIND_TABLE t c = c.match_table_assign.ensures
 
 pub assign-arraydecl-requires : goal.assign-arraydecl-requires
 assign-arraydecl-requires t c =
-    (c.requires, c.if-kind-eq-KIND_ARRAY.true)
+    record { reads = c.requires; contents_value = c.if-kind-eq-KIND_ARRAY.true }
 
 pub assign-returns-then-kind-eq-KIND_ARRAY : goal.assign-returns-then-kind-eq-KIND_ARRAY
 assign-returns-then-kind-eq-KIND_ARRAY t c = c.arraydecl.ensures
 
 pub assign-arrayaccess-requires : goal.assign-arrayaccess-requires
 assign-arrayaccess-requires t c =
-    (omega (arith, c.requires-raw.0), (c.requires, c.if-kind-eq-KIND_ARRAY_ACCESS.true))
+    (omega arith, (c.requires, c.if-kind-eq-KIND_ARRAY_ACCESS.true))
 
 pub assign-returns-then-kind-eq-KIND_ARRAY_ACCESS : goal.assign-returns-then-kind-eq-KIND_ARRAY_ACCESS
 assign-returns-then-kind-eq-KIND_ARRAY_ACCESS t c = c.arrayaccess.ensures
@@ -184,7 +174,7 @@ assign-returns-then-kind-gt-KIND_NAME t c =
 
 pub assign-expr_assign-requires : goal.assign-expr_assign-requires
 assign-expr_assign-requires t c =
-    (omega (arith, c.requires-raw.0), (exp_reads c.requires c.if-kind-eq-KIND_TABLE.false c.if-kind-eq-KIND_ARRAY.false c.if-kind-eq-KIND_ARRAY_ACCESS.false))
+    (omega arith, (exp_reads c.requires c.if-kind-eq-KIND_TABLE.false c.if-kind-eq-KIND_ARRAY.false c.if-kind-eq-KIND_ARRAY_ACCESS.false))
 
 pub assign-returns : goal.assign-returns
 assign-returns t c =
@@ -208,7 +198,7 @@ assign_at-slice_bounds-assign-start-2 t c =
 pub assign_at-assign-r-requires : goal.assign_at-assign-r-requires
 assign_at-assign-r-requires t c =
     let a = c.args in
-    (omega (arith, c.requires-raw.0, length_from a.p.cont a.contents.now), reads_from (part.rights c.args.x) c.requires)
+    (omega (arith, length_from a.p.cont a.contents.now), reads_from (part.rights c.args.x) c.requires)
 
 pub assign_at-moved-requires : goal.assign_at-moved-requires
 assign_at-moved-requires t c =
@@ -243,7 +233,7 @@ binarg-returns-then-kind-eq-KIND_FALSE t c =
 
 pub binarg-expr-requires : goal.binarg-expr-requires
 binarg-expr-requires t c =
-    (omega (arith, c.requires-raw.0), c.requires)
+    (omega arith, c.requires)
 
 pub binarg-returns : goal.binarg-returns
 binarg-returns t c =
@@ -266,7 +256,7 @@ binarg_at-slice_bounds-binarg-start-2 t c =
 pub binarg_at-binarg-r-requires : goal.binarg_at-binarg-r-requires
 binarg_at-binarg-r-requires t c =
     let a = c.args in
-    (omega (arith, c.requires-raw.0, length_from a.p.cont a.contents.now), operand_reads c.requires)
+    (omega (arith, length_from a.p.cont a.contents.now), operand_reads c.requires)
 
 pub binarg_at-shift-requires : goal.binarg_at-shift-requires
 binarg_at-shift-requires t c =
@@ -281,26 +271,23 @@ binarg_at-returns t c =
 
 pub binop-bounds-bodies-0 : goal.binop-bounds-bodies-0
 binop-bounds-bodies-0 t c =
-    omega (arith, bin_roomb (bin_asks c.requires).3)
+    omega (arith, bin_roomb (bin_asks (c.requires.reads, c.requires.contents_value)).3)
 
 pub binop-binarg_at-a-requires : goal.binop-binarg_at-a-requires
 binop-binarg_at-a-requires t c =
-    let p = c.requires in
-    let h = bin_asks p in
-    (omega (arith, c.requires-raw.0, bin_room h.3, ap (λ (d : Done). d.cont) c.start-p.ensures), bin_reads₁ h.3 p.0.ready c.start-p.ensures)
+    let h = bin_asks (c.requires.reads, c.requires.contents_value) in
+    (omega (arith, bin_room h.3, ap (λ (d : Done). d.cont) c.start-p.ensures), bin_reads₁ h.3 c.requires.reads.ready c.start-p.ensures)
 
 pub binop-binarg_at-b-requires : goal.binop-binarg_at-b-requires
 binop-binarg_at-b-requires t c =
-    let p = c.requires in
-    let h = bin_asks p in
+    let h = bin_asks (c.requires.reads, c.requires.contents_value) in
     let d = c.start-p.ensures in
     let g = c.binarg_at-a.ensures in
-    (omega (arith, c.requires-raw.0, bin_room h.3, bin_cont₁ h.3 p.0.ready d g), bin_reads₂ h.3 p.0.ready d g)
+    (omega (arith, bin_room h.3, bin_cont₁ h.3 c.requires.reads.ready d g), bin_reads₂ h.3 c.requires.reads.ready d g)
 
 pub binop-load_at-requires : goal.binop-load_at-requires
 binop-load_at-requires t c =
-    let p = c.requires in
-    bin_ready₂ (bin_asks p).3 p.0.ready c.start-p.ensures c.binarg_at-a.ensures c.binarg_at-b.ensures
+    bin_ready₂ (bin_asks (c.requires.reads, c.requires.contents_value)).3 c.requires.reads.ready c.start-p.ensures c.binarg_at-a.ensures c.binarg_at-b.ensures
 
 pub binop-returns : goal.binop-returns
 binop-returns t c =
@@ -314,35 +301,35 @@ expr-bounds-contents-0 t c =
 
 pub expr-arraymutexpr-requires : goal.expr-arraymutexpr-requires
 expr-arraymutexpr-requires t c =
-    (omega (arith, c.requires-raw.0), (c.requires, c.if-kind-eq-KIND_ARRAY_MUT.true))
+    (omega arith, (c.requires, c.if-kind-eq-KIND_ARRAY_MUT.true))
 
 pub expr-returns-then-kind-eq-KIND_ARRAY_MUT : goal.expr-returns-then-kind-eq-KIND_ARRAY_MUT
 expr-returns-then-kind-eq-KIND_ARRAY_MUT t c = c.arraymutexpr.ensures
 
 pub expr-fncallexpr-requires : goal.expr-fncallexpr-requires
 expr-fncallexpr-requires t c =
-    (omega (arith, c.requires-raw.0), (c.requires, c.if-kind-eq-KIND_CALL.true))
+    (omega arith, (c.requires, c.if-kind-eq-KIND_CALL.true))
 
 pub expr-returns-then-kind-eq-KIND_CALL : goal.expr-returns-then-kind-eq-KIND_CALL
 expr-returns-then-kind-eq-KIND_CALL t c = c.fncallexpr.ensures
 
 pub expr-varassign-requires : goal.expr-varassign-requires
 expr-varassign-requires t c =
-    (omega (arith, c.requires-raw.0), (c.requires, c.if-kind-eq-KIND_ASSIGN.true))
+    (omega arith, (c.requires, c.if-kind-eq-KIND_ASSIGN.true))
 
 pub expr-returns-then-kind-eq-KIND_ASSIGN : goal.expr-returns-then-kind-eq-KIND_ASSIGN
 expr-returns-then-kind-eq-KIND_ASSIGN t c = c.varassign.ensures
 
 pub expr-binop-requires : goal.expr-binop-requires
 expr-binop-requires t c =
-    (omega (arith, c.requires-raw.0), (c.requires, c.if-kind-eq-KIND_BINARY.true))
+    (omega arith, (c.requires, c.if-kind-eq-KIND_BINARY.true))
 
 pub expr-returns-then-kind-eq-KIND_BINARY : goal.expr-returns-then-kind-eq-KIND_BINARY
 expr-returns-then-kind-eq-KIND_BINARY t c = c.binop.ensures
 
 pub expr-unop-requires : goal.expr-unop-requires
 expr-unop-requires t c =
-    (omega (arith, c.requires-raw.0), (c.requires, c.if-kind-eq-KIND_UNARY.true))
+    (omega arith, (c.requires, c.if-kind-eq-KIND_UNARY.true))
 
 pub expr-returns-then-kind-eq-KIND_UNARY : goal.expr-returns-then-kind-eq-KIND_UNARY
 expr-returns-then-kind-eq-KIND_UNARY t c = c.unop.ensures
@@ -378,7 +365,7 @@ expr-returns t c =
 
 pub expr_assign-expr-a-requires : goal.expr_assign-expr-a-requires
 expr_assign-expr-a-requires t c =
-    (omega (arith, c.requires-raw.0), c.requires)
+    (omega arith, c.requires)
 
 pub expr_assign-push_at-requires : goal.expr_assign-push_at-requires
 expr_assign-push_at-requires t c =
@@ -405,7 +392,7 @@ expr_at-slice_bounds-expr-start-2 t c =
 pub expr_at-expr-r-requires : goal.expr_at-expr-r-requires
 expr_at-expr-r-requires t c =
     let a = c.args in
-    (omega (arith, c.requires-raw.0, length_from a.p.cont a.contents.now), reads_from part.exprs c.requires)
+    (omega (arith, length_from a.p.cont a.contents.now), reads_from part.exprs c.requires)
 
 pub expr_at-moved-requires : goal.expr_at-moved-requires
 expr_at-moved-requires t c =
@@ -420,27 +407,23 @@ expr_at-returns t c =
 
 pub fncallexpr-bounds-bodies-0 : goal.fncallexpr-bounds-bodies-0
 fncallexpr-bounds-bodies-0 t c =
-    omega (arith, (call_one (call_asks c.requires).2).body)
+    omega (arith, (call_one (call_asks (c.requires.reads, c.requires.contents_value)).2).body)
 
 pub fncallexpr-bounds-contents-1 : goal.fncallexpr-bounds-contents-1
 fncallexpr-bounds-contents-1 t c =
-    let p = c.requires in
-    omega (arith, (call_one (call_asks p).2).cont)
+    omega (arith, (call_one (call_asks (c.requires.reads, c.requires.contents_value)).2).cont)
 
 pub fncallexpr-params-a-requires : goal.fncallexpr-params-a-requires
 fncallexpr-params-a-requires t c =
-    let p = c.requires in
-    one_asks (call_one (call_asks p).2) p.0.ready c.start-p.ensures 5 c.requires-raw.0 (omega arith)
+    one_asks (call_one (call_asks (c.requires.reads, c.requires.contents_value)).2) c.requires.reads.ready c.start-p.ensures 5 (omega arith) (omega arith)
 
 pub fncallexpr-push_at-b-requires : goal.fncallexpr-push_at-b-requires
 fncallexpr-push_at-b-requires t c =
-    let p = c.requires in
-    one_ready (call_one (call_asks p).2) p.0.ready c.start-p.ensures c.params-a.ensures
+    one_ready (call_one (call_asks (c.requires.reads, c.requires.contents_value)).2) c.requires.reads.ready c.start-p.ensures c.params-a.ensures
 
 pub fncallexpr-load_at-requires : goal.fncallexpr-load_at-requires
 fncallexpr-load_at-requires t c =
-    let p = c.requires in
-    call_ready₂ (call_asks p).2 p.0.ready c.start-p.ensures c.params-a.ensures
+    call_ready₂ (call_asks (c.requires.reads, c.requires.contents_value)).2 c.requires.reads.ready c.start-p.ensures c.params-a.ensures
     c.wide.ensures.0 c.fields_of-f.ensures c.push_at-b.ensures
 
 pub fncallexpr-returns : goal.fncallexpr-returns
@@ -451,7 +434,7 @@ fncallexpr-returns t c =
 
 pub match_table_assign-bounds-contents-1 : goal.match_table_assign-bounds-contents-1
 match_table_assign-bounds-contents-1 t c =
-    omega (arith, tab_room (tab_asks c.requires).1)
+    omega (arith, tab_room (tab_asks (c.requires.reads, c.requires.contents_value)).1)
 
 pub match_table_assign-push_at-a-requires : goal.match_table_assign-push_at-a-requires
 match_table_assign-push_at-a-requires t c =
@@ -459,12 +442,11 @@ match_table_assign-push_at-a-requires t c =
 
 pub match_table_assign-table_items-requires : goal.match_table_assign-table_items-requires
 match_table_assign-table_items-requires t c =
-    let p = c.requires in
-    let h = (tab_asks p).1 in
+    let h = (tab_asks (c.requires.reads, c.requires.contents_value)).1 in
     let d = c.start-p.ensures in
     let f = c.fields_of-f.ensures in
     let u = c.push_at-a.ensures in
-    (omega (arith, c.requires-raw.0, tab_room h, tab_cont h p.0.ready d f u), tab_reads h p.0.ready d f u)
+    (omega (arith, tab_room h, tab_cont h c.requires.reads.ready d f u), tab_reads h c.requires.reads.ready d f u)
 
 pub match_table_assign-returns : goal.match_table_assign-returns
 match_table_assign-returns t c =
@@ -478,7 +460,7 @@ pub params-expr_at-a-requires : goal.params-expr_at-a-requires
 params-expr_at-a-requires t c =
     let l = c.loop-more in
     let z : l.more ≡ 0 → ⊥ = λ e. omega (arith, e) in
-    (omega (arith, c.requires-raw.0, l.invariant.1.behind), par_reads z l.invariant.1.reads)
+    (omega (arith, l.invariant.1.behind), par_reads z l.invariant.1.reads)
 
 pub params-push_at-q-requires : goal.params-push_at-q-requires
 params-push_at-q-requires t c =
@@ -524,7 +506,7 @@ table_items-expr_at-a-requires t c =
     let l = c.loop-more in
     let i = c.pass-i.ensures in
     let z : l.more ≡ 0 → ⊥ = λ e. omega (arith, e) in
-    (omega (arith, c.requires-raw.0, l.invariant.1.behind, ap (λ (d : Done). d.cont) i), item_reads l.more a.x a.contents.now a.bodies.now l.q i z l.invariant.1.reads)
+    (omega (arith, l.invariant.1.behind, ap (λ (d : Done). d.cont) i), item_reads l.more a.x a.contents.now a.bodies.now l.q i z l.invariant.1.reads)
 
 pub table_items-push_at-q-requires : goal.table_items-push_at-q-requires
 table_items-push_at-q-requires t c =
@@ -555,17 +537,15 @@ table_items-returns t c = left_end c.loop-more.invariant.1 (items_none (omega ar
 
 pub unop-bounds-bodies-0 : goal.unop-bounds-bodies-0
 unop-bounds-bodies-0 t c =
-    omega (arith, (un_asks c.requires).body)
+    omega (arith, (un_asks (c.requires.reads, c.requires.contents_value)).body)
 
 pub unop-binarg_at-a-requires : goal.unop-binarg_at-a-requires
 unop-binarg_at-a-requires t c =
-    let p = c.requires in
-    one_asks (un_asks p) p.0.ready c.start-p.ensures 4 c.requires-raw.0 (omega arith)
+    one_asks (un_asks (c.requires.reads, c.requires.contents_value)) c.requires.reads.ready c.start-p.ensures 4 (omega arith) (omega arith)
 
 pub unop-load_at-requires : goal.unop-load_at-requires
 unop-load_at-requires t c =
-    let p = c.requires in
-    one_ready (un_asks p) p.0.ready c.start-p.ensures c.binarg_at-a.ensures
+    one_ready (un_asks (c.requires.reads, c.requires.contents_value)) c.requires.reads.ready c.start-p.ensures c.binarg_at-a.ensures
 
 pub unop-returns : goal.unop-returns
 unop-returns t c =
@@ -575,12 +555,11 @@ unop-returns t c =
 
 pub varassign-bounds-bodies-0 : goal.varassign-bounds-bodies-0
 varassign-bounds-bodies-0 t c =
-    omega (arith, (asg_asks 0 c.requires).body)
+    omega (arith, (asg_asks 0 (c.requires.reads, c.requires.contents_value)).body)
 
 pub varassign-assign_at-requires : goal.varassign-assign_at-requires
 varassign-assign_at-requires t c =
-    let p = c.requires in
-    one_asks (asg_asks _ p) p.0.ready c.start-p.ensures 4 c.requires-raw.0 (omega arith)
+    one_asks (asg_asks _ (c.requires.reads, c.requires.contents_value)) c.requires.reads.ready c.start-p.ensures 4 (omega arith) (omega arith)
 
 pub varassign-returns : goal.varassign-returns
 varassign-returns t c =

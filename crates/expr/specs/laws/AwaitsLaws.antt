@@ -79,6 +79,7 @@ left_end z h = by h.nodes (rw z at h.awaits) h.cont h.body
   where
     by : {u v x y : ℕ} (ns : List Node) → Awaits 0 ns → u + length (entry_bytes ns) ≡ x → v + length (body_bytes ns) ≡ y → (u ≡ x) × (v ≡ y)
     by [] done p q = (omega (arith, p), omega (arith, q))
+    by {y = y} (_ ∷ _) x6 p q = elim x6 [ ]
 
 -- every tree has a node
 few : {m : ℕ} {ns : List Node} → Awaits m ns → m * 2 ≤ length (entry_bytes ns)
@@ -111,6 +112,8 @@ module _ (ms : List Node) (c b : List ℕ) (u v : ℕ) where
           body = omega (arith, g, bl, length-append d (body_bytes ns));
         };
       }
+  by_node zero (_ ∷ ns) p _ s f g i j = elim p [ ]
+  by_node (suc m) [] p x9 s f g i j = elim x9 [ ]
 
   pub turn : (m : ℕ) → 0 < m → u ≤ length c → v ≤ length b → AwaitsLeft ms c b u v m → Turn ms c b u v m
   turn m p i j h = by_node m h.nodes p h.awaits h.spells h.cont h.body i j

@@ -12,7 +12,7 @@ pub lower_tree-c-requires : goal.lower_tree-c-requires
 lower_tree-c-requires c =
     let t = c.requires.spelt.0 in
     let sp = c.requires.spelt.1 in
-    (one_ready t c.requires.by_index.0 c.args.program.now sp.within sp.few c.requires.by_index.1, (t, sp.within, sp.few, sp.contents, sp.parts, sp.numbers))
+    record { ready = one_ready t c.requires.by_index.0 c.args.program.now sp.within sp.few c.requires.by_index.1; stmts_in = (t, sp.within, sp.few, sp.contents, sp.parts, sp.numbers) }
 
 pub returns-then-c-ne0 : goal.returns-then-c-ne0
 returns-then-c-ne0 c t rest sp z =
@@ -25,7 +25,7 @@ finish-requires c =
     let sp = c.requires.spelt.1 in
     let did = c.lower_tree-c.ensures t sp.within sp.few sp.contents sp.parts sp.numbers refl in
     let a = one_asks t c.requires.by_index.0 c.args.program.now sp.within sp.few c.requires.by_index.1 _ _ did c.if-c-ne0.false c.if-c.true in
-    ((a.long, a.few, a.labels, a.functions), (_, a.records))
+    record { in_bounds = (a.long, a.few, a.labels, a.functions); records = (_, a.records) }
 
 pub returns-then-c : goal.returns-then-c
 returns-then-c c t rest sp z =
@@ -47,7 +47,7 @@ compile_both-requires-2 c =
     let t = c.requires.spelt.0 in
     let sp = c.requires.spelt.1 in
     let did = c.lower_tree-c.ensures t sp.within sp.few sp.contents sp.parts sp.numbers refl in
-    ((t, sp), (c.requires.by_index.0, pass_cleared t c.requires.by_index.0 c.args.program.now sp.within sp.few c.requires.by_index.1 one_pass _ _ did _ c.clear.ensures))
+    record { spelt = (t, sp); by_index = (c.requires.by_index.0, pass_cleared t c.requires.by_index.0 c.args.program.now sp.within sp.few c.requires.by_index.1 one_pass _ _ did _ c.clear.ensures) }
 
 pub returns : goal.returns
 returns c t rest sp z =

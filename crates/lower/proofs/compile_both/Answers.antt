@@ -7,7 +7,7 @@ pub lower_tree-d-requires : goal.lower_tree-d-requires
 lower_tree-d-requires c =
     let t = c.requires.spelt.0 in
     let sp = c.requires.spelt.1 in
-    (first_ready t c.requires.by_index.0 c.args.program.now sp.within sp.few c.requires.by_index.1, (t, sp.within, sp.few, sp.contents, sp.parts, sp.numbers))
+    record { ready = first_ready t c.requires.by_index.0 c.args.program.now sp.within sp.few c.requires.by_index.1; stmts_in = (t, sp.within, sp.few, sp.contents, sp.parts, sp.numbers) }
 
 pub returns-then-d-ne0 : goal.returns-then-d-ne0
 returns-then-d-ne0 c t rest sp z =
@@ -20,7 +20,7 @@ lower_tree-c-requires c =
     let sp = c.requires.spelt.1 in
     let did = c.lower_tree-d.ensures t sp.within sp.few sp.contents sp.parts sp.numbers refl in
     let n = sym (first_number t c.requires.by_index.0 c.args.program.now sp.within sp.few c.requires.by_index.1 _ _ did) ∙ c.if-d-ne0.false in
-    (second_ready t c.requires.by_index.0 c.args.program.now sp.within sp.few c.requires.by_index.1 _ _ did n, (t, sp.within, sp.few, sp.contents, sp.parts, sp.numbers))
+    record { ready = second_ready t c.requires.by_index.0 c.args.program.now sp.within sp.few c.requires.by_index.1 _ _ did n; stmts_in = (t, sp.within, sp.few, sp.contents, sp.parts, sp.numbers) }
 
 pub finish-requires : goal.finish-requires
 finish-requires c =
@@ -30,7 +30,7 @@ finish-requires c =
     let n = sym (first_number t c.requires.by_index.0 c.args.program.now sp.within sp.few c.requires.by_index.1 _ _ did) ∙ c.if-d-ne0.false in
     let did₂ = c.lower_tree-c.ensures t sp.within sp.few sp.contents sp.parts sp.numbers refl in
     let a = tables_ask t c.requires.by_index.0 c.args.program.now sp.within sp.few c.requires.by_index.1 _ _ did n _ _ did₂ in
-    ((a.long, a.few, a.labels, a.functions), (_, a.records))
+    record { in_bounds = (a.long, a.few, a.labels, a.functions); records = (_, a.records) }
 
 pub returns : goal.returns
 returns c t rest sp z =

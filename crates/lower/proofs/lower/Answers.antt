@@ -18,7 +18,7 @@ returns-then-n-ne0 c =
 pub lower_read-r-requires : goal.lower_read-r-requires
 lower_read-r-requires c =
     let b = c.args.program.now in
-    (sym c.read-n.ensures ∙ c.if-n-ne0.false, (drop 40960 b, cleared c.args.file.now b (omega (arith, c.if-program-lt-PROGRAM_SIZE.false)) _ c.clear.ensures))
+    record { file_value = sym c.read-n.ensures ∙ c.if-n-ne0.false; by_index = (drop 40960 b, cleared c.args.file.now b (omega (arith, c.if-program-lt-PROGRAM_SIZE.false)) _ c.clear.ensures) }
 
 pub returns-then-r-ne0 : goal.returns-then-r-ne0
 returns-then-r-ne0 c =

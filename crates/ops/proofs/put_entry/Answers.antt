@@ -1,6 +1,9 @@
-use Rattle.text.specs.laws.PutLaws.{put_as, put_then}
+use Rattle.text.specs.laws.PutLaws.{put_as, put_none, put_then}
 use Rattle.ops.specs.laws.TextLaws.{entry_some}
 use Rattle.ops.proofs.put_entry.Goals as goal
+
+pub returns-then-entry-eq0 : goal.returns-then-entry-eq0
+returns-then-entry-eq0 c = rw c.if-entry-eq0.true (put_none _ _ c.requires)
 
 pub returns : goal.returns
 returns c =

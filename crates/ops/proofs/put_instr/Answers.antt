@@ -10,6 +10,9 @@ use Rattle.ops.specs.inner.Told.{op_in, PooledTold}
 use Rattle.ops.specs.laws.TextLaws.{instr_text}
 use Rattle.ops.proofs.put_instr.Goals as goal
 
+pub fetch_fields-f-requires : goal.fetch_fields-f-requires
+fetch_fields-f-requires c = omega (arith, c.requires)
+
 pub put_op-s-requires : goal.put_op-s-requires
 put_op-s-requires c =
     (put_within c.requires.0 (put_then c.requires.0 c.put_two-p.ensures c.put_all-q.ensures), omega (arith, c.requires.1), subst (λ (g : Fields). PooledTold g.word (op_in c.args.program.now g)) (sym c.fetch_fields-f.ensures) c.requires.3)

@@ -1,12 +1,21 @@
 use mathlib.Core.Path.{◌≡◌}
 use native.Mathlib.Omega.{arith}
 use lib.ListN.{length}
-use Rattle.text.specs.laws.PutLaws.{put_as, put_within, put_then}
+use Rattle.text.specs.laws.PutLaws.{put_as, put_length, put_within, put_then}
 use Rattle.text.specs.laws.Joined.{put_three, put_four}
 use Rattle.ops.specs.laws.ToldLaws.{accepted}
 use Rattle.ops.specs.laws.TextLaws.{program_lines}
 use Rattle.tables.specs.ProgramBytes.{program_in}
 use Rattle.ops.proofs.put_program.Goals as goal
+
+pub start_of-requires : goal.start_of-requires
+start_of-requires c = c.requires.1
+
+pub put_start-p-requires : goal.put_start-p-requires
+put_start-p-requires c = c.requires.0
+
+pub count_of-requires : goal.count_of-requires
+count_of-requires c = c.requires.1
 
 pub put_code-q-requires : goal.put_code-q-requires
 put_code-q-requires c =
@@ -28,3 +37,9 @@ returns c =
     let b = c.args.program.now in
     put_as (program_lines b _ (accepted b _ c.requires.2) (c.start_of.ensures _ c.requires.2) (c.count_of.ensures _ c.requires.2))
     (put_four c.requires.0 c.put_start-p.ensures c.put_code-q.ensures c.put_table-s.ensures c.put_table.ensures)
+
+pub shape_of-out : goal.shape_of-out
+shape_of-out c =
+    let b = c.args.program.now in
+    put_length c.requires.0 (put_as (program_lines b _ (accepted b _ c.requires.2) (c.start_of.ensures _ c.requires.2) (c.count_of.ensures _ c.requires.2))
+    (put_four c.requires.0 c.put_start-p.ensures c.put_code-q.ensures c.put_table-s.ensures c.put_table.ensures))

@@ -31,5 +31,5 @@ returns c =
     let a = c.args in
     let b = a.program.now in
     let f = c.fill_labels in
-    table_made b 32768 1024 f.new.1.1.0 (label_entry b a.n) c.same_table.ensures (omega (arith, f.ensures.0))
+    table_made b 32768 1024 f.new.t (label_entry b a.n) c.same_table.ensures (omega (arith, f.ensures.0))
     (λ l h. f.ensures.1 l (omega (arith, h)) ∙ ap (λ (x : ℕ). marked (enters b) (lbl_of b) l a.n 0 (cond (ltb 0 a.n && eqb 0 l) 2 x)) (get_or-replicate 1024 l 1 0 h))

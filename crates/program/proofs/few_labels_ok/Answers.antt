@@ -29,6 +29,6 @@ returns c =
     let b = a.program.now in
     let f = c.fill_labels in
     few_table b a.n c.requires.2 (bytes_of b (λ i. omega (arith, c.type_inv.program i))) c.requires.0
-    (table_made b 32768 128 f.last.1.1.0 (label_entry b a.n) c.same_table.ensures (omega (arith, f.ensures.0))
+    (table_made b 32768 128 f.new.t (label_entry b a.n) c.same_table.ensures (omega (arith, f.ensures.0))
     (λ l h. f.ensures.1 l (omega (arith, h)) ∙ ap (λ (x : ℕ). marked (enters b) (lbl_of b) l a.n 0 (cond (ltb 0 a.n && eqb 0 l) 2 x)) (get_or-replicate 128 l 1 0 h)))
     c.all_zero.ensures

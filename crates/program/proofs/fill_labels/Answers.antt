@@ -59,6 +59,6 @@ returns c =
     let u = mark_length a.t.now (ltb 0 a.n) 0 0 m.ensures in (
       l.invariant.2.sized ∙ u,
       λ x h.
-          fill_end (enters b) (lbl_of b) (length m.last.0) a.n m.last.0 l.i l.t c.loop-i-test.false l.invariant.2 x (omega (arith, u, h))
+          fill_end (enters b) (lbl_of b) (length m.new.t) a.n m.new.t l.i l.t c.loop-i-test.false l.invariant.2 x (omega (arith, u, h))
           ∙ ap (marked (enters b) (lbl_of b) x a.n 0) (mark_at_lem a.t.now (ltb 0 a.n) 0 0 m.ensures (λ _. c.requires.3) x),
     )

@@ -21,5 +21,5 @@ returns c =
     let a = c.args in
     let b = a.program.now in
     let f = c.fill_functions in
-    table_made b 34816 64 f.new.1.1.0 (function_entry b a.n) c.same_table.ensures f.ensures.0
+    table_made b 34816 64 f.new.t (function_entry b a.n) c.same_table.ensures f.ensures.0
     (λ x h. f.ensures.1 x h ∙ ap (marked (is_fn b) (name_of b) x a.n 0) (get_or-replicate 64 x 1 0 h))

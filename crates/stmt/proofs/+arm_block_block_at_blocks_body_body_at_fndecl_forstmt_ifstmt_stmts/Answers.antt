@@ -32,7 +32,7 @@ arm-body_at-b-requires t c =
     let e = c.expr_at-c.ensures in
     let j = c.jump_false-j.ensures in
     let f = arm_falls a.last a.contents.now a.bodies.now a.p c.requires e j in (
-      omega (arith, c.requires-raw.0, f.0, f.1),
+      omega (arith, f.0, f.1),
       (arm_block_reads a.last a.contents.now a.bodies.now a.p c.requires e j, arm_block_kind a.last a.contents.now a.bodies.now a.p c.requires e j),
     )
 
@@ -70,7 +70,7 @@ block-bounds-contents-0 t c =
 
 pub block-body-requires : goal.block-body-requires
 block-body-requires t c =
-    (omega (arith, c.requires-raw.0), (c.requires, c.if-kind-eq-KIND_BLOCK.true))
+    (omega arith, (c.requires, c.if-kind-eq-KIND_BLOCK.true))
 
 pub block-shape_of-out-then-kind-eq-KIND_BLOCK : goal.block-shape_of-out-then-kind-eq-KIND_BLOCK
 block-shape_of-out-then-kind-eq-KIND_BLOCK t c = c.body.auto.out
@@ -80,7 +80,7 @@ block-returns-then-kind-eq-KIND_BLOCK t c = c.body.ensures
 
 pub block-ifstmt-requires : goal.block-ifstmt-requires
 block-ifstmt-requires t c =
-    (omega (arith, c.requires-raw.0), (c.requires, c.if-kind-eq-KIND_IF.true))
+    (omega arith, (c.requires, c.if-kind-eq-KIND_IF.true))
 
 pub block-shape_of-out-then-kind-eq-KIND_IF : goal.block-shape_of-out-then-kind-eq-KIND_IF
 block-shape_of-out-then-kind-eq-KIND_IF t c = c.ifstmt.auto.out
@@ -90,7 +90,7 @@ block-returns-then-kind-eq-KIND_IF t c = c.ifstmt.ensures
 
 pub block-forstmt-requires : goal.block-forstmt-requires
 block-forstmt-requires t c =
-    (omega (arith, c.requires-raw.0), (c.requires, c.if-kind-eq-KIND_FOR.true))
+    (omega arith, (c.requires, c.if-kind-eq-KIND_FOR.true))
 
 pub block-shape_of-out-then-kind-eq-KIND_FOR : goal.block-shape_of-out-then-kind-eq-KIND_FOR
 block-shape_of-out-then-kind-eq-KIND_FOR t c = c.forstmt.auto.out
@@ -100,7 +100,7 @@ block-returns-then-kind-eq-KIND_FOR t c = c.forstmt.ensures
 
 pub block-ret-requires : goal.block-ret-requires
 block-ret-requires t c =
-    (c.requires, c.if-kind-eq-KIND_RETURN.true)
+    record { reads = c.requires; contents_value = c.if-kind-eq-KIND_RETURN.true }
 
 pub block-shape_of-out-then-kind-eq-KIND_RETURN : goal.block-shape_of-out-then-kind-eq-KIND_RETURN
 block-shape_of-out-then-kind-eq-KIND_RETURN t c = c.ret.auto.out
@@ -110,7 +110,7 @@ block-returns-then-kind-eq-KIND_RETURN t c = c.ret.ensures
 
 pub block-expr_stmt-requires : goal.block-expr_stmt-requires
 block-expr_stmt-requires t c =
-    (c.requires, c.if-kind-eq-KIND_EXPR_STMT.true)
+    record { reads = c.requires; contents_value = c.if-kind-eq-KIND_EXPR_STMT.true }
 
 pub block-shape_of-out-then-kind-eq-KIND_EXPR_STMT : goal.block-shape_of-out-then-kind-eq-KIND_EXPR_STMT
 block-shape_of-out-then-kind-eq-KIND_EXPR_STMT t c = c.expr_stmt.auto.out
@@ -120,7 +120,7 @@ block-returns-then-kind-eq-KIND_EXPR_STMT t c = c.expr_stmt.ensures
 
 pub block-vardecl-requires : goal.block-vardecl-requires
 block-vardecl-requires t c =
-    (c.requires, c.if-kind-eq-KIND_VAR_DECL.true)
+    record { reads = c.requires; contents_value = c.if-kind-eq-KIND_VAR_DECL.true }
 
 pub block-shape_of-out-then-kind-eq-KIND_VAR_DECL : goal.block-shape_of-out-then-kind-eq-KIND_VAR_DECL
 block-shape_of-out-then-kind-eq-KIND_VAR_DECL t c = c.vardecl.auto.out
@@ -132,7 +132,7 @@ pub block-fndecl-requires : goal.block-fndecl-requires
 block-fndecl-requires t c =
     let r = c.requires in
     let k = kind_here r.tree r.spelt.spells refl in (
-      omega (arith, c.requires-raw.0),
+      omega arith,
       (r, others k c.if-kind-eq-KIND_BLOCK.false c.if-kind-eq-KIND_IF.false c.if-kind-eq-KIND_FOR.false c.if-kind-eq-KIND_RETURN.false c.if-kind-eq-KIND_EXPR_STMT.false c.if-kind-eq-KIND_VAR_DECL.false),
     )
 
@@ -159,7 +159,7 @@ block_at-slice_bounds-block-start-2 t c =
 
 pub block_at-block-r-requires : goal.block_at-block-r-requires
 block_at-block-r-requires t c =
-    (omega (arith, c.requires-raw.0, length_from c.args.p.cont c.args.contents.now), reads_from (statements c.args.p.lbl) c.requires)
+    (omega (arith, length_from c.args.p.cont c.args.contents.now), reads_from (statements c.args.p.lbl) c.requires)
 
 pub block_at-moved-requires : goal.block_at-moved-requires
 block_at-moved-requires t c =
@@ -185,7 +185,7 @@ blocks-returns-then-n-eq0 t c =
 
 pub blocks-stmts-requires : goal.blocks-stmts-requires
 blocks-stmts-requires t c =
-    (omega (arith, c.requires-raw.0), body_list c.args.n c.requires)
+    (omega arith, body_list c.args.n c.requires)
 
 pub blocks-shape_of-out : goal.blocks-shape_of-out
 blocks-shape_of-out t c = c.stmts.auto.out
@@ -202,7 +202,7 @@ pub body-blocks-requires : goal.body-blocks-requires
 body-blocks-requires t c =
     let l = c.args.lbl in
     let d = c.start-p.ensures in (
-      omega (arith, c.requires-raw.0, stmt_room l c.requires.reads, ap (λ (d : Done). d.cont) d),
+      omega (arith, stmt_room l c.requires.reads, ap (λ (d : Done). d.cont) d),
       block_reads l c.requires.contents_value d c.requires.reads,
     )
 
@@ -230,7 +230,7 @@ body_at-slice_bounds-body-start-2 t c =
 pub body_at-body-r-requires : goal.body_at-body-r-requires
 body_at-body-r-requires t c =
     let a = c.args in (
-      omega (arith, c.requires-raw.0, length_from a.p.cont a.contents.now),
+      omega (arith, length_from a.p.cont a.contents.now),
       (reads_from (statements a.p.lbl) c.requires.reads_at, from_kind a.p.cont a.contents.now c.requires.cont_value),
     )
 
@@ -247,14 +247,14 @@ body_at-returns t c =
 
 pub fndecl-fn_head-h-requires : goal.fndecl-fn_head-h-requires
 fndecl-fn_head-h-requires t c =
-    (c.requires.reads, c.requires.contents_value)
+    record { reads = c.requires.reads; contents_value = c.requires.contents_value }
 
 pub fndecl-body_at-d-requires : goal.fndecl-body_at-d-requires
 fndecl-body_at-d-requires t c =
     let f = is_a_fn c.args.lbl c.requires.contents_value c.requires.reads in
     let r = c.requires.reads.ready in
     let h = c.fn_head-h.ensures in
-    (omega (arith, c.requires-raw.0, (fn_falls f r h).0, (fn_falls f r h).1), (fn_block_reads f r h, fn_block_kind f r h))
+    (omega (arith, (fn_falls f r h).0, (fn_falls f r h).1), (fn_block_reads f r h, fn_block_kind f r h))
 
 pub fndecl-newlbl-requires : goal.fndecl-newlbl-requires
 fndecl-newlbl-requires t c =
@@ -309,7 +309,7 @@ forstmt-body_at-d-requires t c =
     let o = c.source_at-s.ensures in
     let h = c.for_head-h.ensures in
     let d = for_falls f r n p o h in
-    (omega (arith, c.requires-raw.0, d.0, d.1), (for_block_reads f r n p o h, for_block_kind f r n p o h))
+    (omega (arith, d.0, d.1), (for_block_reads f r n p o h, for_block_kind f r n p o h))
 
 pub forstmt-for_tail-requires : goal.forstmt-for_tail-requires
 forstmt-for_tail-requires t c =
@@ -359,7 +359,7 @@ pub ifstmt-arm-a-requires : goal.ifstmt-arm-a-requires
 ifstmt-arm-a-requires t c =
     let l = c.loop-more in
     let r = if_arm_reads l.invariant.1 (l.more - 1) (omega arith) in
-    (omega (arith, c.requires-raw.0, stmt_room c.args.lbl c.requires.reads, ap (λ (d : Done). d.cont) c.start-q.ensures, l.invariant.1.behind), r)
+    (omega (arith, stmt_room c.args.lbl c.requires.reads, ap (λ (d : Done). d.cont) c.start-q.ensures, l.invariant.1.behind), r)
 
 pub ifstmt-next_arm-q-requires : goal.ifstmt-next_arm-q-requires
 ifstmt-next_arm-q-requires t c =
@@ -375,7 +375,7 @@ ifstmt-loop-more-preserved t c =
 pub ifstmt-stmts-s-requires : goal.ifstmt-stmts-s-requires
 ifstmt-stmts-s-requires t c =
     let l = c.loop-more in
-    (omega (arith, c.requires-raw.0, stmt_room c.args.lbl c.requires.reads, ap (λ (d : Done). d.cont) c.start-q.ensures, l.invariant.1.behind), if_else_reads l.invariant.1 (omega arith))
+    (omega (arith, stmt_room c.args.lbl c.requires.reads, ap (λ (d : Done). d.cont) c.start-q.ensures, l.invariant.1.behind), if_else_reads l.invariant.1 (omega arith))
 
 pub ifstmt-if_end-e-requires : goal.ifstmt-if_end-e-requires
 ifstmt-if_end-e-requires t c =
@@ -386,7 +386,7 @@ ifstmt-update_ends-requires t c =
     let i = c.loop-more.invariant.1 in
     let k = c.stmts-s.ensures in
     let e = c.if_end-e.ensures in
-    (if_waits i (omega arith) k e, if_ready i (omega arith) k e)
+    record { by_index = if_waits i (omega arith) k e; in_bounds = if_ready i (omega arith) k e }
 
 pub ifstmt-shape_of-out : goal.ifstmt-shape_of-out
 ifstmt-shape_of-out t c =
@@ -408,7 +408,7 @@ pub stmts-block_at-q-requires : goal.stmts-block_at-q-requires
 stmts-block_at-q-requires t c =
     let l = c.loop-more in
     let z : l.more ≡ 0 → ⊥ = λ e. omega (arith, e) in
-    (omega (arith, c.requires-raw.0, l.invariant.1.behind), list_first l.more z l.invariant.1.reads)
+    (omega (arith, l.invariant.1.behind), list_first l.more z l.invariant.1.reads)
 
 pub stmts-loop-more-preserved : goal.stmts-loop-more-preserved
 stmts-loop-more-preserved t c =

@@ -1,5 +1,5 @@
 -- The parts of a tree that are lowered here: statements, lists of them, the arms of an If, what a For goes over; and what leaves emit. Definitions only.
-use Rattle.std.specs.Prelude.{ℕ, ◌+◌, ◌-◌, ◌*◌, ◌≤◌, ◌<◌, ◌^◌, ◌≡◌, Bool, true, cond, ◌&&◌, List, [], ◌∷◌, ◌++◌, map, T, ltb, eqb, length, replicate}
+use Rattle.std.specs.Prelude.{ℕ, ◌+◌, ◌*◌, ◌≤◌, ◌<◌, ◌^◌, ◌≡◌, Bool, true, cond, ◌&&◌, List, [], ◌∷◌, ◌++◌, map, T, ltb, eqb, length, replicate}
 use Rattle.lent.specs.Bytes.{be_value, be_bytes, part, splice, concat}
 use Rattle.sifv.specs.Value.{Num, One, Str}
 use Rattle.opc.specs.Op.{Lt, Jmpt, Binary, Ldn, Ldas, Ldav, Stc, Str, JmpCnd, Incrr, Fn}

@@ -7,7 +7,7 @@ use Rattle.ast.specs.Tree.{Stmt, Block, FnDecl, Stmts}
 use Rattle.ast.specs.Node.{Node}
 use Rattle.ast.specs.Flat.{flat_names, flat_stmt, entry_bytes, body_bytes}
 use Rattle.ast.specs.Limits.{every_name, every}
-use Rattle.compiler.specs.Lower.{Decl, Place, Reg, push, declaring, or_nop, lower_pops, lower_stmts}
+use Rattle.compiler.specs.Lower.{Decl, Reg, push, declaring, or_nop, lower_pops, lower_stmts}
 use Rattle.emit.specs.declared.Low.{Low}
 use Rattle.emit.specs.declared.Done.{Done}
 use Rattle.emit.specs.inner.Run.{kept, step_event, after_events, wrote, Ready, Did}

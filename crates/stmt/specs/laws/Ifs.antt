@@ -1,6 +1,6 @@
 -- An If's arms, lowered in a loop: what is left of them gives the whole, once the jumps that wait have their target.
-use Rattle.std.specs.Prelude.{ℕ, suc, ◌+◌, ◌-◌, ◌*◌, ◌≤◌, ◌<◌, ◌^◌, ◌≡◌, refl, Bool, true, false, cond, List, [], ◌∷◌, eqb, length}
-use Rattle.std.proofs.Common.{sym, ap, ◌∙◌, arith, eqb-true}
+use Rattle.std.specs.Prelude.{ℕ, suc, ◌+◌, ◌-◌, ◌*◌, ◌≤◌, ◌<◌, ◌^◌, ◌≡◌, refl, Bool, true, cond, List, [], ◌∷◌, eqb, length}
+use Rattle.std.proofs.Common.{ap, ◌∙◌, arith, eqb-true}
 use Rattle.std.proofs.lemmas.Bool.{eqb-false}
 use Rattle.lent.specs.Bytes.{be_value, be_bytes, part, splice}
 use Rattle.opc.specs.Op.{Nop}
@@ -8,7 +8,7 @@ use Rattle.compiler.specs.Lower.{push}
 use Rattle.emit.specs.declared.Low.{Low}
 use Rattle.emit.specs.declared.Done.{Done}
 use Rattle.emit.specs.inner.Run.{Ready}
-use Rattle.emit.specs.inner.Made.{Part, ReadsAt, Goes}
+use Rattle.emit.specs.inner.Made.{ReadsAt, Goes}
 use Rattle.emit.specs.laws.Laws.{Is, yes, no, is}
 use Rattle.stmt.specs.inner.Parts.{Emitted, last_waiting, Waits, targets, written, next_arm, end_label, lists, heads}
 use Rattle.stmt.specs.laws.ArmParts.{arms, rests}

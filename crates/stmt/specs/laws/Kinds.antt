@@ -1,5 +1,5 @@
 -- Which statement stands at the front, by its kind; and where its parts stand.
-use Rattle.std.specs.Prelude.{ℕ, ◌+◌, ◌-◌, ◌≤◌, ◌≡◌, refl, Bool, List, ◌∷◌, length, drop, get_or}
+use Rattle.std.specs.Prelude.{ℕ, ◌+◌, ◌≤◌, ◌≡◌, refl, Bool, List, ◌∷◌, length, drop, get_or}
 use Rattle.std.proofs.Common.{sym, ap, ◌∙◌, arith, length-drop, drop-drop}
 use Rattle.ast.specs.Node.{Kind, Node, node}
 use Rattle.ast.specs.Tree.{Expr, Rhs, Source}

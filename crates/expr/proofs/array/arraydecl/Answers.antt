@@ -24,7 +24,10 @@ pub arrayitems-end-requires : goal.arrayitems-end-requires
 arrayitems-end-requires c =
     let h = arr_asks c.requires.reads c.requires.contents_value in
     let r = c.requires.reads.ready in
-    ((omega (arith, c.type_inv.contents 1), r.pool, λ e. omega (arith, c.push_items-q.ensures.room e, c.push_items-q.auto, r.room)), (h.1, arr_lits h.2))
+    record {
+      n_bound = (omega (arith, c.type_inv.contents 1), r.pool, λ e. omega (arith, c.push_items-q.ensures.room e, c.push_items-q.auto, r.room));
+      lits = (h.1, arr_lits h.2);
+    }
 
 pub overflow_mul-m : goal.overflow_mul-m
 overflow_mul-m c =

@@ -1,36 +1,27 @@
-use Prim.Native.Nat.{◌-◌}
 use native.Mathlib.Omega.{arith}
 use Rattle.ast.specs.Tree.{Expr}
 use Rattle.ast.specs.Flat.{flat_expr}
 use Rattle.emit.specs.inner.Made.{Spells}
 use Rattle.expr.specs.laws.AwaitsLaws.{Turn, left_start, left_end, turn}
 use Rattle.expr.proofs.skip.skip.Goals as goal
-use Rattle.expr.proofs.skip.skip.Goals.{In-loop-more, Start}
-
-abbrev Inside : Type 0
-Inside = In-loop-more
-
-abbrev begun : Inside → Start
-begun c =
-    let l = c.before in
-    l.before.before.before
+use Rattle.expr.proofs.skip.skip.Goals.{In-loop-more}
 
 -- a turn, where the bytes spell e
-abbrev TurnOf : Inside → Expr → Type 0
+abbrev TurnOf : In-loop-more → Expr → Type 0
 TurnOf c e =
-    let a = (begun c).args in
-    let l = c.before.loop in
+    let a = c.args in
+    let l = c.loop-more in
     Turn (flat_expr e) a.entries.now a.bodies.now l.u l.v l.more
 
-turned : (c : Inside) (e : Expr) → Spells (flat_expr e) (begun c).args.entries.now (begun c).args.bodies.now → TurnOf c e
+turned : (c : In-loop-more) (e : Expr) → Spells (flat_expr e) c.args.entries.now c.args.bodies.now → TurnOf c e
 turned c e h =
-    let a = (begun c).args in
-    let l = c.before.loop in
-    turn (flat_expr e) a.entries.now a.bodies.now l.u l.v l.more c.loop-i-test.true l.invariant.0 l.invariant.1 (l.invariant.2 e h)
+    let a = c.args in
+    let l = c.loop-more in
+    turn (flat_expr e) a.entries.now a.bodies.now l.u l.v l.more c.loop-more-test.true l.invariant.0 l.invariant.1 (l.invariant.2 e h)
 
 -- they do, for the tree that is asked for
-taken : (c : Inside) → TurnOf c (begun c).requires.0
-taken c = turned c (begun c).requires.0 (begun c).requires.1
+taken : (c : In-loop-more) → TurnOf c c.requires.0
+taken c = turned c c.requires.0 c.requires.1
 
 pub loop-more-init : goal.loop-more-init
 loop-more-init c = (omega arith, omega arith, λ e h. left_start e _ _ h)
@@ -53,9 +44,6 @@ overflow_cast-more c = omega (arith, (taken (goal.at.overflow_cast-more c).In-lo
 pub overflow_add-more-in-loop-more : goal.overflow_add-more-in-loop-more
 overflow_add-more-in-loop-more c = omega (arith, (taken (goal.at.overflow_add-more-in-loop-more c).In-loop-more).small)
 
-pub overflow_sub-more : goal.overflow_sub-more
-overflow_sub-more c = omega (arith, c.loop-more-test.true)
-
 pub overflow_add-u : goal.overflow_add-u
 overflow_add-u c = omega (arith, (taken (goal.at.overflow_add-u c).In-loop-more).within)
 
@@ -64,10 +52,10 @@ loop-more-smaller c = omega (arith, (taken (goal.at.loop-more-smaller c).In-loop
 
 pub loop-more-preserved : goal.loop-more-preserved
 loop-more-preserved c =
-    let i : Inside = search in
+    let i = (goal.at.loop-more-preserved c).In-loop-more in
     let n = c.body_size-v.ensures in
     let t = taken i in
-    (t.within, rw n t.bodies, λ e h. rw n ((turned i e h).left _ (omega (arith, i.loop-i-test.taken))))
+    (t.within, rw n t.bodies, λ e h. rw n ((turned i e h).left _ (omega (arith, i.loop-more-test.true))))
 
 pub returns : goal.returns
 returns c = λ e h. left_end (omega (arith, c.loop-more-test.false)) (c.loop-more.invariant.2 e h)

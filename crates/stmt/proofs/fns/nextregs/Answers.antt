@@ -1,6 +1,5 @@
 use native.Mathlib.Omega.{arith}
 use mathlib.Core.Path.{sym, ◌∙◌}
-use Prim.Native.Nat.{◌-◌}
 use Rattle.stmt.specs.laws.Fns.{step_bound, regs_start, regs_turn, regs_end}
 use Rattle.stmt.proofs.fns.nextregs.Goals as goal
 

@@ -1,7 +1,6 @@
 use native.Mathlib.Omega.{arith}
 use mathlib.Core.Path.{refl, sym, ◌∙◌}
-use Prim.Native.Nat.{◌+◌, ◌-◌}
-use lib.ListN.{length}
+use Prim.Native.Nat.{◌+◌}
 use Rattle.stmt.specs.laws.Fns.{items_start, item_length_lem, items_turn, items_end}
 use Rattle.sifv.specs.Value.{Str}
 use Rattle.stmt.proofs.fns.param_items.Goals as goal

@@ -12,7 +12,10 @@ returns-then-is_full c = fn_full c.if-low-ne0.false (sym c.is_full.ensures ∙ c
 
 pub keep_fn-requires : goal.keep_fn-requires
 keep_fn-requires c =
-    let h = roomy c.args.keep c.args.low _ (sym c.is_full.ensures ∙ c.if-is_full.false) in ((λ e. let g = h.1 e in (omega (arith, g.0), g.1)), (c.requires.1, c.requires.0.room))
+    let h = roomy c.args.keep c.args.low _ (sym c.is_full.ensures ∙ c.if-is_full.false) in record {
+      recs_bound = λ e. let g = h.1 e in (omega (arith, g.0), g.1);
+      names_len_bound = (c.requires.1, c.requires.0.room);
+    }
 
 pub returns : goal.returns
 returns c =

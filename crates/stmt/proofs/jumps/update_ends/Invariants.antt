@@ -1,6 +1,6 @@
 use mathlib.Core.Path.{◌≡◌}
 use mathlib.Core.List.{List}
-use Prim.Native.Nat.{ℕ, ◌-◌}
+use Prim.Native.Nat.{ℕ}
 use lib.ListN.{length}
 use Rattle.stmt.specs.inner.Parts.{last_waiting, Waits}
 use Rattle.stmt.specs.laws.Ends.{EndsLeft}

@@ -56,6 +56,8 @@ lays_mono (from h m) = then h (le_refl _) m
 pub at_head : {P : Program} {p a q b n n' : ℕ} {c : List Event} → At P p a c q b → Lays n c n' → a < n → label_at P.code n ≡ some p
 at_head (reg s) (skip l) h = at_head s l h
 at_head (more f g s) (from z m) h = g (omega arith)
+at_head {P = P} {n = n} (here {p = p} {a = a}) x13 h = elim x13 [ ]
+at_head {P = P} {n = n} (below {p = p} {a = a} {q = q} {b = b} {es = es} _) x15 h = elim x15 [ ]
 
 -- ---- a plain script: each part begins with its label, and labels never decrease
 
