@@ -53,7 +53,7 @@ returns c =
     let r = program_ready q (each_of q 0 (λ i h. omega (arith, c.type_inv.program i))) s.requires.0 s.requires.3 in
     let e = c.count_of-n.ensures (program_in q) (programmed q s.requires.3) in
     let ran = c.run_used-ran in
-    let l = ran.auto.1.0 ∙ length_part b 0 47360 (omega (arith, s.requires.1)) in
+    let l = ran.auto.state ∙ length_part b 0 47360 (omega (arith, s.requires.1)) in
     run_written q b s.args.steps s.args.report.now e (omega (arith, r.few, e)) (each_of b 0 (λ i h. omega (arith, c.slice_known-1.given i))) s.requires.1
-    c.state_ok.ensures (not-false c.state_ok.result (ap not c.if-not-state_ok.false)) c.progress_of-first.ensures c.if-count-steps.false ran.ensures l (splice_lent b 0 47360 ran.new.1.0 l)
+    c.state_ok.ensures (not-false c.state_ok.result (ap not c.if-not-state_ok.false)) c.progress_of-first.ensures c.if-count-steps.false ran.ensures l (splice_lent b 0 47360 ran.new.state l)
     (sym (c.start_of-start.ensures (program_in q) (programmed q s.requires.3))) c.write_report.ensures c.write_report.auto.out s.requires.2
