@@ -27,11 +27,14 @@ read_bodies-requires c =
     let a = c.args in
     let t = c.text_bytes-total.ensures.0 in
     let n = c.node_bytes.ensures.0 in
-    let d = length-drop c.text_bytes-total.result a.bodies.now in record { count_bound = (c.requires.0, c.requires.1, c.requires.2, c.requires.3); total_value = (
+    let d = length-drop c.text_bytes-total.result a.bodies.now in record {
+      count_bound = (c.requires.0, c.requires.1, c.requires.2, c.requires.3);
+      total_value = (
         t,
         omega arith,
         room_of a.nodes a.entries.now _ c.requires.4 (sym c.kinds_ok.ensures ∙ not-false c.kinds_ok.result (ap not c.if-not-kinds_ok.false)) (omega arith),
-      ) }
+      );
+    }
 
 pub returns : goal.returns
 returns c =

@@ -22,7 +22,7 @@ loop-i-preserved c =
     let eb = sym (get_or-replicate {A = ℕ} r.n l.i 0 0 (omega arith)) in (
       omega arith,
       elim c.if-s-at-ne0.branch [
-        then-s-at-ne0 w ↦ same_differ a (replicate r.n 0) l.i _ 0 l.ok c.if-s-at-ne0.ok (omega arith) (omega arith) ea eb l.invariant.1 w.if-s-at-ne0.true w.ok-is
+        | then-s-at-ne0 w ↦ same_differ a (replicate r.n 0) l.i _ 0 l.ok c.if-s-at-ne0.ok (omega arith) (omega arith) ea eb l.invariant.1 w.if-s-at-ne0.true w.ok-is
         | else-s-at-ne0 w ↦ same_agree a (replicate r.n 0) l.i _ 0 l.ok c.if-s-at-ne0.ok (omega arith) (omega arith) ea eb l.invariant.1 w.if-s-at-ne0.false w.ok-is
       ],
     )

@@ -22,7 +22,7 @@ loop-i-preserved c =
     let eb = sym (get_d_part r.b.now r.bt r.n l.i 0 (omega arith)) in (
       omega arith,
       elim c.if-a-at.branch [
-        then-a-at w ↦ same_differ a b l.i _ _ l.ok c.if-a-at.ok (omega arith) (omega arith) ea eb l.invariant.1 w.if-a-at.true w.ok-is
+        | then-a-at w ↦ same_differ a b l.i _ _ l.ok c.if-a-at.ok (omega arith) (omega arith) ea eb l.invariant.1 w.if-a-at.true w.ok-is
         | else-a-at w ↦ same_agree a b l.i _ _ l.ok c.if-a-at.ok (omega arith) (omega arith) ea eb l.invariant.1 w.if-a-at.false w.ok-is
       ],
     )

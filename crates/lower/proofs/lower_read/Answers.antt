@@ -45,11 +45,14 @@ slice_bounds-compile-start-2 c =
 pub compile-requires : goal.compile-requires
 compile-requires c =
     let f = c.args.file.now in
-    let t = accepted_tree f c.requires.file_value in record { spelt = (
+    let t = accepted_tree f c.requires.file_value in record {
+      spelt = (
         t.0,
         tree_spelt f c.requires.file_value c.get_u16.result c.get_u16.ensures.0 c.text_bytes-total.result c.text_bytes-total.ensures.0 t.0
             (bytes_of f (λ i. omega (arith, c.type_inv.file i))) t.1,
-      ); by_index = c.requires.by_index }
+      );
+      by_index = c.requires.by_index;
+    }
 
 pub returns : goal.returns
 returns c t rest e z =

@@ -15,10 +15,13 @@ functions-requires c =
     let h = c.requires in
     let cs = h.records.0 in
     let b = c.args.program.now in
-    let e = c.label_table.ensures cs h.records.1 in record { in_bounds = (omega (arith, labels_length cs c.args.n b _ h.in_bounds.0 e, h.in_bounds.0), h.in_bounds.1); begun = (
+    let e = c.label_table.ensures cs h.records.1 in record {
+      in_bounds = (omega (arith, labels_length cs c.args.n b _ h.in_bounds.0 e, h.in_bounds.0), h.in_bounds.1);
+      begun = (
         cs,
         functions_begun cs c.args.n _ (labels_records cs c.args.n b _ h.in_bounds.0 e h.in_bounds.1 h.records.1) (labels_behind cs c.args.n b _ h.in_bounds.0 e ∙ h.in_bounds.3),
-      ) }
+      );
+    }
 
 pub returns : goal.returns
 returns c cs r =

@@ -23,7 +23,7 @@ loop-i-init c =
       omega arith,
       omega (arith, sum_first a.lengths.now (omega arith)),
       ap ascending (cut_first a.lengths.now a.texts.now (omega arith))
-      ∙ ap (λ (k : ℕ). ascending (take k a.texts.now ∷ cut (drop 1 a.lengths.now) (drop (get_or a.lengths.now 0 0) a.texts.now))) (sym (sub-zero (get_or a.lengths.now 0 0))),
+          ∙ ap (λ (k : ℕ). ascending (take k a.texts.now ∷ cut (drop 1 a.lengths.now) (drop (get_or a.lengths.now 0 0) a.texts.now))) (sym (sub-zero (get_or a.lengths.now 0 0))),
     )
 
 pub overflow_cast-end : goal.overflow_cast-end

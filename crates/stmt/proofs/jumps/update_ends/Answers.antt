@@ -29,13 +29,12 @@ loop-i-smaller c =
     omega (arith, f, c.get_u64-before.ensures)
 
 pub loop-i-preserved : goal.loop-i-preserved
-loop-i-preserved c =
-    (
-      search rules,
-      λ xs e w.
-          let turned = ends_turn (c.loop-i.invariant.1 xs e w) (λ z. omega (arith, z)) (16 * c.loop-i.i - 8) (omega arith) (omega (arith, c.loop-i.invariant.0, c.requires.in_bounds)) in
-          rw c.put_u64.ensures (rw (sym c.get_u64-before.ensures) at turned),
-    )
+loop-i-preserved c = (
+  search rules,
+  λ xs e w.
+      let turned = ends_turn (c.loop-i.invariant.1 xs e w) (λ z. omega (arith, z)) (16 * c.loop-i.i - 8) (omega arith) (omega (arith, c.loop-i.invariant.0, c.requires.in_bounds)) in
+      rw c.put_u64.ensures (rw (sym c.get_u64-before.ensures) at turned),
+)
 
 pub shape_of-out : goal.shape_of-out
 shape_of-out c = c.loop-i.invariant.0
