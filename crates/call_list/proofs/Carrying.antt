@@ -20,7 +20,7 @@ use Rattle.boundary.specs.StartCall.{start_call}
 use Rattle.tables.specs.ProgramBytes.{program_in}
 use Rattle.demand3.specs.CallList.{Call, Run, ReadName, Ending, ending_in, latest, AfterCalls, NoEffect, with_effect, outcome, call_all, fresh}
 use Rattle.demand3.specs.Demand3 as claimed
-use Rattle.demand3.specs.laws.Demand3Proof as demand
+use Rattle.demand3.proofs.laws.Demand3Proof as demand
 use Rattle.call_list.specs.declared.Last.{Last}
 use Rattle.call_list.specs.CallBytes.{lent_out, call_by, call_of, and_calls, calls_from, calls_in, last_of}
 use Rattle.call_list.specs.CarriedOut.{Leaves, after_entry, OneCall, CarriedOut}

@@ -1,1 +1,2 @@
 mod Computed
+pub mod laws

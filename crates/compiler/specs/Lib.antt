@@ -1,4 +1,3 @@
 pub mod Literals
 pub mod Lower
 pub mod Within
-pub mod laws

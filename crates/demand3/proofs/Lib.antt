@@ -1,1 +1,2 @@
 mod Started
+pub mod laws

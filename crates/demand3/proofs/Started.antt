@@ -24,7 +24,7 @@ use Rattle.boundary.specs.StartCall.{start_call}
 use Rattle.boundary.specs.RunCall.{run_call}
 use Rattle.boundary.specs.ReadCall.{read_call}
 use Rattle.demand3.specs.CallList.{Call, Run, ReadName, call_all, fresh}
-use Rattle.demand3.specs.laws.Demand3Proof.{script_starts, demand3}
+use Rattle.demand3.proofs.laws.Demand3Proof.{script_starts, demand3}
 use Rattle.lent.specs.Lists.{zeros}
 use Rattle.demand3.specs.Demand3.{Starts, Demand3}
 

@@ -1,3 +1,2 @@
 pub mod CallList
 pub mod Demand3
-pub mod laws

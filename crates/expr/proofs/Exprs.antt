@@ -20,7 +20,7 @@ use Rattle.ast.specs.Flat.{flat_expr, flat_exprs, expr_count, entry_bytes, body_
 use Rattle.ast.specs.Limits.{every_expr, every_exprs}
 use Rattle.compiler.specs.Literals.{bin_kind, un_kind}
 use Rattle.compiler.specs.Lower.{Place, Event, Below, ask_below, prev, push, load, arg_regs, expr_regs, param_regs, lower_arg, lower_expr, lower_params, lower_rhs}
-use Rattle.compiler.specs.laws.Accepted.{regs_in}
+use Rattle.compiler.proofs.laws.Accepted.{regs_in}
 use Rattle.emit.specs.declared.Low.{Low}
 use Rattle.emit.specs.declared.Done.{Done}
 use Rattle.emit.specs.inner.Run.{kept, after_events, wrote, Ready, Did, PushesOp, Loads}

@@ -18,7 +18,7 @@ use Rattle.ast.specs.Flat.{flat_expr, flat_items, entry_bytes, body_bytes}
 use Rattle.ast.specs.Limits.{every_expr, every_items}
 use Rattle.compiler.specs.Literals.{literal}
 use Rattle.compiler.specs.Lower.{Place, prev, push, load, expr_regs, lower_expr, lower_items}
-use Rattle.compiler.specs.laws.Accepted.{regs_in}
+use Rattle.compiler.proofs.laws.Accepted.{regs_in}
 use Rattle.emit.specs.declared.Low.{Low}
 use Rattle.emit.specs.declared.Done.{Done}
 use Rattle.emit.specs.inner.Run.{kept, Ready, PushesOp, Loads}

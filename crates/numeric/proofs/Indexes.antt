@@ -8,7 +8,7 @@ use lib.Ieee.Exact.{HasValue}
 use Rattle.numeric.specs.Index.{index_of, whole_quotient}
 use Rattle.numeric.specs.Whole.{whole}
 use Rattle.numeric.specs.inner.OrMax.{or_max}
-use Rattle.numeric.specs.laws.IndexLaws.{quotient_whole, quotient_only, index_largest}
+use Rattle.numeric.proofs.laws.IndexLaws.{quotient_whole, quotient_only, index_largest}
 use Rattle.numeric.specs.laws.WholeLaws.{whole_value}
 use Rattle.numeric.specs.laws.Exact.{held, round_own}
 

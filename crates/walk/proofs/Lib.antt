@@ -1,2 +1,3 @@
 mod Stopped
 mod Computed
+pub mod laws

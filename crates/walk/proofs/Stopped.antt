@@ -13,7 +13,7 @@ use Rattle.vm.specs.Operation.{Names}
 use Rattle.vm.specs.Machine.{Stopped}
 use Rattle.walk.specs.Walk.{walk}
 use Rattle.walk.specs.Runs.{runs}
-use Rattle.walk.specs.laws.Theorems.{any_runs}
+use Rattle.walk.proofs.laws.Theorems.{any_runs}
 use Rattle.walk.specs.Statements.{Served}
 
 abbrev script : Stmts

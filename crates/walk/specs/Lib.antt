@@ -3,4 +3,3 @@ pub mod Bound
 pub mod Runs
 pub mod Statements
 pub mod Cost
-pub mod laws

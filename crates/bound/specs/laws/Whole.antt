@@ -14,9 +14,9 @@ use Rattle.tables.specs.Tables.{Program}
 use Rattle.compiler.specs.Lower.{lowered, lower}
 use Rattle.walk.specs.Bound as Bound
 use Rattle.walk.specs.Bound.{bound}
-use Rattle.walk.specs.laws.BoundSize.{bound_small}
-use Rattle.walk.specs.laws.Bounded.{bound_positive}
-use Rattle.walk.specs.laws.BoundByNodes.{bound_by_nodes}
+use Rattle.walk.proofs.laws.BoundSize.{bound_small}
+use Rattle.walk.proofs.laws.Bounded.{bound_positive}
+use Rattle.walk.proofs.laws.BoundByNodes.{bound_by_nodes}
 use Rattle.bound.specs.inner.Weights.{cost_of, subtree, of_entries, limit}
 use Rattle.bound.specs.inner.BoundOf.{bound_of}
 use Rattle.bound.specs.laws.Preorder.{entries_cost}

@@ -8,7 +8,7 @@ use Rattle.sifv.specs.Value.{Single}
 use Rattle.opc.specs.Op.{Instr, op}
 use Rattle.opc.specs.Record.{items_of, item_bytes, encode_instr}
 use Rattle.compiler.specs.Lower.{Decl, Main, Place, Event, Reg, Push, Below}
-use Rattle.compiler.specs.laws.Accepted.{regs_in}
+use Rattle.compiler.proofs.laws.Accepted.{regs_in}
 use Rattle.emit.specs.declared.Low.{Low}
 use Rattle.emit.specs.inner.Run.{kept, refuse, no_room, counted, instr_items, act, step_event, after_events, put_instr, goes, write, wrote, Ready, Did, PushesOp}
 pub use Rattle.tables.specs.laws.ProgramLaws.{length_record}

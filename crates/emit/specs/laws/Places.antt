@@ -5,7 +5,7 @@ use Rattle.ast.specs.Flat.{entry_bytes, body_bytes}
 use Rattle.opc.specs.Op.{Instr, op}
 use Rattle.opc.specs.Record.{items_of, encode_instr}
 use Rattle.compiler.specs.Lower.{Place, Event, Reg, Push}
-use Rattle.compiler.specs.laws.Accepted.{regs_in}
+use Rattle.compiler.proofs.laws.Accepted.{regs_in}
 use Rattle.emit.specs.declared.Low.{Low}
 use Rattle.emit.specs.declared.Done.{Done}
 use Rattle.emit.specs.inner.Run.{kept, Ready, PushesOp, Loads}

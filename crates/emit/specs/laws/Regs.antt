@@ -3,8 +3,8 @@ use Rattle.std.specs.Prelude.{ℕ, ◌≡◌}
 use Rattle.opc.specs.laws.RecordRange.{Any}
 use Rattle.ast.specs.Tree.{Expr, Exprs}
 use Rattle.compiler.specs.Lower.{Place, ask_below, arg_regs, expr_regs, param_regs, lower_arg, lower_expr, lower_params}
-pub use Rattle.compiler.specs.laws.Events.{regs_append}
-use Rattle.compiler.specs.laws.Events.{regs_in, a_below, arg_emits, expr_emits, params_emits}
+pub use Rattle.compiler.proofs.laws.Events.{regs_append}
+use Rattle.compiler.proofs.laws.Events.{regs_in, a_below, arg_emits, expr_emits, params_emits}
 
 pub before_regs : (q : ℕ) → regs_in (ask_below q) ≡ 0
 before_regs q = (a_below {Q = Any} {Z = ⊥} 0 0 q).regs

@@ -3,7 +3,7 @@ use mathlib.Core.Path.{◌≡◌, sym, ap, ◌∙◌}
 use mathlib.Core.Option.{Option, some}
 use Rattle.sifv.specs.Value.{Value, One, Num}
 use Rattle.sifv.specs.inner.Seen.{seen, kind_in}
-use Rattle.numeric.specs.laws.IndexLaws.{told_at, told_none}
+use Rattle.numeric.proofs.laws.IndexLaws.{told_at, told_none}
 use Rattle.execute.specs.inner.View.{names_of, regs_of, err}
 use Rattle.execute.specs.laws.Acts.{reg_formed, reg_value}
 use Rattle.execute.specs.laws.Arrays.{loadarrv_off, loadarrv_at}

@@ -3,7 +3,7 @@ use mathlib.Core.Path.{◌≡◌, refl, sym, ap, ◌∙◌}
 use mathlib.Core.Option.{Option, some}
 use Rattle.sifv.specs.Value.{Value, One, Num}
 use Rattle.sifv.specs.inner.Seen.{seen, kind_in}
-use Rattle.numeric.specs.laws.IndexLaws.{told_at, told_none}
+use Rattle.numeric.proofs.laws.IndexLaws.{told_at, told_none}
 use Rattle.execute.specs.inner.View.{regs_of}
 use Rattle.execute.specs.laws.Acts.{reg_formed, reg_value, kind_none}
 use Rattle.execute.specs.laws.Arrays.{newarrv_index, newarrv_none, newarrv_no_index, newarrv_at}

@@ -1,7 +1,7 @@
 -- `leaves::leaf_has_index` meets its contract.
 use mathlib.Core.Path.{sym, ap}
 use Rattle.numeric.specs.Index.{index_of}
-use Rattle.numeric.specs.laws.IndexLaws.{told_at, told_none}
+use Rattle.numeric.proofs.laws.IndexLaws.{told_at, told_none}
 use Rattle.numeric.specs.inner.OrMax.{has_index}
 use Rattle.leaves.proofs.leaf_has_index.Goals as goal
 

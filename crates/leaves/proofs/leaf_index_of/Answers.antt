@@ -1,7 +1,7 @@
 -- `leaves::leaf_index_of` meets its contract.
 use mathlib.Core.Path.{sym, ap}
 use Rattle.numeric.specs.Index.{index_of}
-use Rattle.numeric.specs.laws.IndexLaws.{told_at, told_none}
+use Rattle.numeric.proofs.laws.IndexLaws.{told_at, told_none}
 use Rattle.numeric.specs.inner.OrMax.{or_max}
 use Rattle.leaves.proofs.leaf_index_of.Goals as goal
 

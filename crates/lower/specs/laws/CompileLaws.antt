@@ -13,7 +13,7 @@ use Rattle.ast.specs.Tree.{Stmts}
 use Rattle.ast.specs.Flat.{flat}
 use Rattle.compiler.specs.Lower.{Decl, Main, Event, Reg, Push, Below, lower_tree, refusal, code_of, program_of, decide}
 use Rattle.compiler.specs.Within.{StmtsIn}
-use Rattle.compiler.specs.laws.Accepted.{tree_items, unrefused_length, lowered_within}
+use Rattle.compiler.proofs.laws.Accepted.{tree_items, unrefused_length, lowered_within}
 use Rattle.emit.specs.declared.Low.{Low}
 use Rattle.emit.specs.inner.Run.{kept, instr_items, step_event, after_events, put_instr, goes, write, wrote, Ready, Did}
 use Rattle.emit.specs.laws.Laws.{length_items, length_record, length_put, goes_room}

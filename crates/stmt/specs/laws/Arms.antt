@@ -26,7 +26,7 @@ use Rattle.stmt.specs.laws.Patch.{Next, did_at, next_did, did_first, head_did, e
 use Rattle.stmt.specs.laws.Ends.{Same, did_same, did_grows}
 use Rattle.stmt.specs.laws.Leaves.{emitted_ready, emitted_lbl, emitted_cont, emitted_body}
 use Rattle.stmt.specs.laws.Kinds.{Is, is_if, Whole, read_as, made_as_kind, stmt_room, block_kind, expr_size, entries_both, bodies_both, in_at, count_here, reads_nodes, reads_bodies, goes_ready, goes_cont, goes_body, goes_lbl}
-use Rattle.compiler.specs.laws.Events.{regs_in, regs_append, else_labels_lem}
+use Rattle.compiler.proofs.laws.Events.{regs_in, regs_append, else_labels_lem}
 
 -- ---- the parts of an arm alone
 

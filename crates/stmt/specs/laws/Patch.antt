@@ -8,7 +8,7 @@ use Rattle.sifv.specs.Value.{Single}
 use Rattle.opc.specs.Op.{Jmpa, JmpCnd, JmpOpKind, Instr, instr, op}
 use Rattle.opc.specs.Record.{items_of, item_bytes, encode_instr}
 use Rattle.compiler.specs.Lower.{Place, Event, Push, push}
-use Rattle.compiler.specs.laws.Accepted.{regs_in}
+use Rattle.compiler.proofs.laws.Accepted.{regs_in}
 use Rattle.emit.specs.declared.Low.{Low}
 use Rattle.emit.specs.inner.Run.{kept, refuse, no_room, counted, instr_items, step_event, after_events, put_instr, goes, write, wrote, Ready, Did}
 use Rattle.emit.specs.laws.Laws.{Is, yes, no, is, after_append, wrote_append, did_then, did_if, reg_is, unrefused, ready_did, goes_room, length_record}

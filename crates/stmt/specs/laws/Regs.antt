@@ -4,7 +4,7 @@ use Rattle.std.proofs.Common.{ap}
 use Rattle.opc.specs.laws.RecordRange.{Any}
 use Rattle.ast.specs.Tree.{Source, Stmt, Stmts}
 use Rattle.compiler.specs.Lower.{Place, Reg, source_regs, stmt_regs, stmts_regs, or_nop, lower_source, lower_pops, lower_stmt, lower_stmts}
-use Rattle.compiler.specs.laws.Events.{regs_in, source_emits, block_emits, anywhere, stmt_emits, stmts_emits}
+use Rattle.compiler.proofs.laws.Events.{regs_in, source_emits, block_emits, anywhere, stmt_emits, stmts_emits}
 
 pub source_regs_lem : (s : Source) (w : Place) (n r : ℕ) → regs_in (lower_source s w n r) ≡ source_regs s
 source_regs_lem s w n r = (source_emits {Q = Any} {Z = ⊥} w tt n absurd s absurd r).regs

@@ -5,7 +5,7 @@ use Rattle.ast.specs.Tree.{Stmts}
 use Rattle.ast.specs.Flat.{flat, entry_bytes, body_bytes}
 use Rattle.ast.specs.Limits.{numbers_fit}
 use Rattle.compiler.specs.Lower.{Main, top, or_nop, lower_stmts, lower_tree}
-use Rattle.compiler.specs.laws.Accepted.{tree_labels}
+use Rattle.compiler.proofs.laws.Accepted.{tree_labels}
 use Rattle.emit.specs.declared.Low.{Low}
 use Rattle.emit.specs.declared.Done.{Done}
 use Rattle.emit.specs.inner.Run.{kept, Ready, Did}

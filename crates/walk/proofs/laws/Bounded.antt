@@ -13,11 +13,11 @@ use Rattle.vm.specs.RuntimeErr.{RuntimeErr}
 use Rattle.vm.specs.Machine.{Stopped}
 use Rattle.walk.specs.Walk.{Walked, walk, walk_count, walk_end}
 use Rattle.walk.specs.Bound.{longest, total, bound}
-use Rattle.walk.specs.laws.Simulation.Labels.{main, no_declarations, lays_mono, lays_block}
+use Rattle.walk.proofs.laws.Simulation.Labels.{main, no_declarations, lays_mono, lays_block}
 use Rattle.walk.specs.Cost.{or_one_cost, cost_stmts}
-use Rattle.walk.specs.laws.Bounded.Steps.{Within, ends, stops, Any, script_takes}
-use Rattle.walk.specs.laws.Bounded.Sum.{a_tree}
-use Rattle.walk.specs.laws.Bounded.Positive.{p_script}
+use Rattle.walk.proofs.laws.Bounded.Steps.{Within, ends, stops, Any, script_takes}
+use Rattle.walk.proofs.laws.Bounded.Sum.{a_tree}
+use Rattle.walk.proofs.laws.Bounded.Positive.{p_script}
 
 count_le : {l b : ℕ} {o : Walked (Unit {0})} → Within l Any b o → walk_count o ≤ b
 count_le (ends h s p) = h

@@ -7,8 +7,8 @@ use Rattle.tables.specs.Tables.{Program}
 use Rattle.vm.specs.Machine.{Machine, Step, Goes, Stops, Ends, perform, step, initial, State, started, Ran, follow, run}
 use Rattle.walk.specs.Walk.{Walked, Fine, Halt, walk_count, walk_names, walk_end}
 use Rattle.walk.specs.Runs.{next_step, needed, Runs, newer, runs_from}
-use Rattle.walk.specs.laws.Simulation.Logic.{mk, Run, stay, move}
-use Rattle.walk.specs.laws.Simulation.Sound.{Final, finished, stopped}
+use Rattle.walk.proofs.laws.Simulation.Logic.{mk, Run, stay, move}
+use Rattle.walk.proofs.laws.Simulation.Sound.{Final, finished, stopped}
 use Rattle.lent.specs.Lists.{sum}
 
 -- where the steps of a walk lead from m

@@ -9,10 +9,10 @@ use Rattle.vm.specs.RuntimeErr.{RuntimeErr}
 use Rattle.vm.specs.Machine.{step, initial, State, started, Stopped, Ran, run}
 use Rattle.walk.specs.Walk.{Walked, Fine, Halt, walk, walk_count, walk_names, walk_end}
 use Rattle.walk.specs.Bound.{bound}
-use Rattle.walk.specs.laws.Bounded.{walk_within, walk_stops_within, plain_code}
+use Rattle.walk.proofs.laws.Bounded.{walk_within, walk_stops_within, plain_code}
 use Rattle.walk.specs.Runs.{needed, runs}
-use Rattle.walk.specs.laws.Simulation.Sound.{program_is, script}
-use Rattle.walk.specs.laws.Simulation.Portions.{Reach, reach, needed_some, needed_least, once, runs_once, beyond, reached, still, answers, run_count}
+use Rattle.walk.proofs.laws.Simulation.Sound.{program_is, script}
+use Rattle.walk.proofs.laws.Simulation.Portions.{Reach, reach, needed_some, needed_least, once, runs_once, beyond, reached, still, answers, run_count}
 use Rattle.lent.specs.Lists.{sum}
 use Rattle.walk.specs.Statements.{Bounds, Simulates, Lowers, Served}
 

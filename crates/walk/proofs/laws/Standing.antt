@@ -9,9 +9,9 @@ use Rattle.vm.specs.Machine.{started, run}
 use Rattle.walk.specs.Walk.{walk}
 use Rattle.walk.specs.Runs.{needed, Runs, newer, runs_from}
 use Rattle.walk.specs.Statements.{Lowers, Served}
-use Rattle.walk.specs.laws.Simulation.Portions.{once, runs_once}
+use Rattle.walk.proofs.laws.Simulation.Portions.{once, runs_once}
 use Rattle.walk.specs.Bound.{bound}
-use Rattle.walk.specs.laws.Theorems.{any_runs, bounds, enough}
+use Rattle.walk.proofs.laws.Theorems.{any_runs, bounds, enough}
 
 -- the state that c steps from start leave, with no steps given since
 abbrev pub base : Program → ℕ → Runs

@@ -10,9 +10,9 @@ use Rattle.compiler.specs.Lower.{lower, lowered}
 use Rattle.walk.specs.Walk.{walk}
 use Rattle.walk.specs.Bound.{longest, bound}
 use Rattle.walk.specs.Runs.{Runs, runs}
-use Rattle.walk.specs.laws.ShortArrays.{ok_longest}
-use Rattle.walk.specs.laws.Standing.{Standing, plain_stands}
-use Rattle.walk.specs.laws.Theorems.{plain_runs}
+use Rattle.walk.proofs.laws.ShortArrays.{ok_longest}
+use Rattle.walk.proofs.laws.Standing.{Standing, plain_stands}
+use Rattle.walk.proofs.laws.Theorems.{plain_runs}
 use Rattle.lent.specs.Lists.{sum}
 use Rattle.walk.specs.Statements.{Lowers, Served}
 

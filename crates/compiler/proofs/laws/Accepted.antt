@@ -17,8 +17,8 @@ use Rattle.ast.specs.Tree.{Stmt, Block, IfStmt, ForStmt, Return, ReturnExpr, Exp
 use Rattle.compiler.specs.Lower.{Section, Decl, Main, Event, Reg, Push, Below, stmts_regs}
 use Rattle.compiler.specs.Lower.{else_labels, stmt_labels, stmts_labels, rest_labels}
 use Rattle.compiler.specs.Lower.{top, lower_tree, refusal, only, code_of, program_of, lowered, decide, lower}
-pub use Rattle.compiler.specs.laws.Events.{regs_in}
-use Rattle.compiler.specs.laws.Events.{weigh, pushes_in, InRange, EventOk, Emits, else_labels_lem, block_emits, stmts_emits, anywhere}
+pub use Rattle.compiler.proofs.laws.Events.{regs_in}
+use Rattle.compiler.proofs.laws.Events.{weigh, pushes_in, InRange, EventOk, Emits, else_labels_lem, block_emits, stmts_emits, anywhere}
 use Rattle.compiler.specs.Within.{StmtsIn}
 use Rattle.opc.specs.laws.RecordRange.{Any}
 use Rattle.opc.specs.Limits.{OpFits}

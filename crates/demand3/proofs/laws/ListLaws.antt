@@ -19,13 +19,13 @@ use Rattle.vm_laws.specs.laws.RunLaws.{run_all}
 use Rattle.vm_laws.specs.laws.Kept.{run_storable, storable_more}
 use Rattle.vm_laws.specs.laws.StopLaws.{stop_whole}
 use Rattle.walk.specs.Runs.{Runs, newer}
-use Rattle.walk.specs.laws.Standing.{Standing, stands_given}
+use Rattle.walk.proofs.laws.Standing.{Standing, stands_given}
 use Rattle.vm.specs.Report.{report_size, report_bytes, report}
 use Rattle.lent.specs.Answered.{over, answered}
 use Rattle.lent.specs.Answered.{RunAnswered}
 use Rattle.boundary.specs.RunCall.{run_checks, run_refused, ran_out, run_deed, run_call}
 use Rattle.boundary.specs.ReadCall.{read_call}
-use Rattle.demand3.specs.laws.CallLaws.{length_over}
+use Rattle.demand3.proofs.laws.CallLaws.{length_over}
 use Rattle.demand3.specs.CallList.{Call, Run, ReadName, outcome, steps_told, Ending, ending_in, ending_with, ending_of, Gave, NoEffect, effect, AfterCalls, latest, with_effect, after_call, call_all}
 use Rattle.lent.specs.laws.Guarded.{check_passed, Passed, deed_done, all_passed, refused_same}
 use Rattle.opc.specs.Limits.{OpFits}

@@ -8,10 +8,10 @@ use Rattle.tables.specs.Tables.{Program}
 use Rattle.ast.specs.Tree.{Expr, Stmts, Rest}
 use Rattle.ast.specs.Structure.{expr_ok, source_ok, stmt_ok, stmts_ok, rest_ok}
 use Rattle.compiler.specs.Lower.{Place, Event, top, lower_tree, refusal, program_of, lowered, lower}
-use Rattle.compiler.specs.laws.Events.{pushes_in, Mono, end, took, asked, then, Nests, block_emits, stmts_emits}
-use Rattle.compiler.specs.laws.Accepted.{not_refused, decided}
+use Rattle.compiler.proofs.laws.Events.{pushes_in, Mono, end, took, asked, then, Nests, block_emits, stmts_emits}
+use Rattle.compiler.proofs.laws.Accepted.{not_refused, decided}
 use Rattle.walk.specs.Bound.{longest, total, bound}
-use Rattle.walk.specs.laws.ShortArrays.{ok_longest}
+use Rattle.walk.proofs.laws.ShortArrays.{ok_longest}
 
 -- at most k loops around an instruction
 abbrev Around : ℕ → Place → Type 0

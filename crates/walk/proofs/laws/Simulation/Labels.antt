@@ -10,12 +10,12 @@ use Rattle.ast.specs.Tree.{Stmt, ForStmt, Stmts, Rest}
 use Rattle.ast.specs.Plain.{plain_stmt, plain, plain_rest}
 use Rattle.compiler.specs.Lower.{Decl, Main, Place, Event, Reg, Push, stmt_labels, stmts_labels, rest_labels}
 use Rattle.compiler.specs.Lower.{or_nop, inner, lower_stmt, lower_stmts, lower_rest, code_of}
-use Rattle.compiler.specs.laws.Events as Events
-pub use Rattle.compiler.specs.laws.Events.{end, took, asked, then}
-use Rattle.compiler.specs.laws.Events.{Nests, block_emits, stmt_emits, stmts_emits, rest_emits}
-use Rattle.walk.specs.laws.Parts.{arm_plain}
-use Rattle.walk.specs.laws.Bounded.Sum.{Opens, past, at, a_stmt, a_rest, a_script}
-use Rattle.walk.specs.laws.Simulation.Logic.{At, here, reg, below, more}
+use Rattle.compiler.proofs.laws.Events as Events
+pub use Rattle.compiler.proofs.laws.Events.{end, took, asked, then}
+use Rattle.compiler.proofs.laws.Events.{Nests, block_emits, stmt_emits, stmts_emits, rest_emits}
+use Rattle.walk.proofs.laws.Parts.{arm_plain}
+use Rattle.walk.proofs.laws.Bounded.Sum.{Opens, past, at, a_stmt, a_rest, a_script}
+use Rattle.walk.proofs.laws.Simulation.Logic.{At, here, reg, below, more}
 
 -- ---- in the main section
 

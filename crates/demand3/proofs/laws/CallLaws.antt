@@ -12,7 +12,7 @@ use Rattle.tables.specs.ProgramBytes.{program_size, encode_program, decode_progr
 use Rattle.tables.specs.laws.ProgramLaws.{program_length}
 use Rattle.compiler.specs.Lower.{lower, lowered}
 use Rattle.compiler.specs.Within.{StmtsIn}
-use Rattle.compiler.specs.laws.Accepted.{lowered_within, lowered_back}
+use Rattle.compiler.proofs.laws.Accepted.{lowered_within, lowered_back}
 use Rattle.vm.specs.Machine.{started}
 use Rattle.stored.specs.StateBytes.{state_size, encode_state}
 use Rattle.lent.specs.Answered.{over, Answered, answered}

@@ -3,7 +3,7 @@ use Rattle.std.specs.Prelude.{◌≡◌, ℕ, suc, ◌^◌, ◌≤◌}
 use Rattle.std.proofs.Common.{ap}
 use Rattle.std.proofs.Math.Option.{Option, some}
 use Rattle.numeric.specs.Whole.{whole}
-use Rattle.numeric.specs.laws.IndexLaws.{index_whole}
+use Rattle.numeric.proofs.laws.IndexLaws.{index_whole}
 use Rattle.sifv.specs.Value.{Num, One}
 use Rattle.vm.specs.Operation.{Names, put, located, item_in}
 use Rattle.walk.specs.Walk.{Walked, counting, ◌>>=◌, steps, gets, pass}

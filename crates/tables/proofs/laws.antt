@@ -1,0 +1,2 @@
+-- Laws that the edits of a definition contradict. A reader may skip them.
+pub mod LabelLaws
