@@ -4,7 +4,7 @@ use Rattle.std.specs.Float.Ieee.{of_bits}
 use Rattle.std.specs.Float.{binary64}
 use Rattle.std.specs.Float.Ieee.Scale.{finite}
 use Rattle.sifv.specs.Value.{Single, Num, Str, Bl, Null}
-use Rattle.opc.specs.Op.{BinOpKind, Add, Sub, Mul, Div, Modu, Eq, LtEq, Lt, GtEq, Gt, Land, Lnot, Lor, UnOpKind, Lneg, Nneg}
+use Rattle.opc.specs.Op.{BinOpKind, Add, Sub, Mul, Div, Modu, Eq, Land, Lnot, Lor, UnOpKind, Lneg, Nneg}
 use Rattle.ast.specs.Tree.{BinTok, UnTok, Bang, Negate, Lit, Val, Text, Truth}
 
 -- a literal's value: as an operand, in an Array, and assigned to a name (document 02, M-100: "Assigning True now stores true.")

@@ -1,5 +1,4 @@
 use native.Mathlib.Omega.{arith}
-use Rattle.bound.specs.inner.Weights as Rule
 use Rattle.bound.proofs.Steps.{begins, turn, finish, stops, short, goes, counts_small}
 use Rattle.bound.proofs.+children_subtree.Goals as goal
 

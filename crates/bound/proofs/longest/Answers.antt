@@ -1,6 +1,4 @@
-use Prim.Native.Nat.{◌-◌}
 use native.Mathlib.Omega.{arith}
-use Rattle.bound.specs.inner.Weights as Rule
 use Rattle.bound.proofs.Steps.{longest_end, longest_turn, longer_small}
 use Rattle.bound.proofs.longest.Goals as goal
 

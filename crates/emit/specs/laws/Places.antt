@@ -1,5 +1,5 @@
 -- Parts of a tree, one after the other: what is made of the first, then of the next.
-use Rattle.std.specs.Prelude.{ℕ, ◌+◌, ◌-◌, ◌≤◌, ◌≡◌, refl, Bool, List, [], ◌∷◌, ◌++◌, length, drop}
+use Rattle.std.specs.Prelude.{ℕ, ◌+◌, ◌≤◌, ◌≡◌, refl, Bool, List, [], ◌∷◌, ◌++◌, length, drop}
 use Rattle.std.proofs.Common.{ap, sym, ◌∙◌, arith}
 use Rattle.ast.specs.Flat.{entry_bytes, body_bytes}
 use Rattle.opc.specs.Op.{Instr, op}

@@ -1,6 +1,5 @@
 use Rattle.text.specs.laws.PutLaws.{put_none, put_length, put_within}
 use Rattle.ending.specs.laws.EndLaws.{names_turn}
-use Prim.Native.Nat.{◌-◌}
 use mathlib.Core.Path.{◌≡◌}
 use native.Mathlib.Omega.{arith}
 use Rattle.ending.proofs.put_names.Goals as goal

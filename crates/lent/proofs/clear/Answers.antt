@@ -2,7 +2,6 @@ use mathlib.Core.Path.{◌≡◌, refl, ap, ◌∙◌}
 use Prim.Native.Nat.{ℕ, ◌+◌, ◌-◌}
 use native.Mathlib.Omega.{arith}
 use lib.ListN.{length, replicate, length-replicate}
-use Rattle.lent.specs.Bytes.{splice}
 use Rattle.lent.specs.laws.Parts.{length_splice}
 use Rattle.lent.proofs.Loops.{clear_turn, clear_end}
 use Rattle.lent.proofs.clear.Goals as goal

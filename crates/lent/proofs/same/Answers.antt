@@ -1,5 +1,4 @@
 use mathlib.Core.Path.{refl, sym}
-use Prim.Native.Nat.{◌-◌}
 use native.Mathlib.Omega.{arith}
 use Rattle.lent.specs.Bytes.{part}
 use Rattle.lent.specs.laws.Parts.{length_part, get_d_part}

@@ -1,7 +1,6 @@
 use mathlib.Core.Path.{refl, sym, ◌∙◌}
-use Prim.Native.Nat.{◌-◌}
 use native.Mathlib.Omega.{arith}
-use lib.ListN.{length, replicate, length-set, length-replicate, get_or-replicate}
+use lib.ListN.{replicate, length-set, length-replicate, get_or-replicate}
 use Rattle.lent.proofs.Loops.{write_start, write_turn, write_end}
 use Rattle.lent.proofs.zero.Goals as goal
 

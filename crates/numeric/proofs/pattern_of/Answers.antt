@@ -1,5 +1,5 @@
 -- `numeric::pattern_of` meets its contract.
-use Rattle.std.proofs.Common.{ℕ, ◌*◌, ◌^◌, ◌<◌, sym, ap, ◌∙◌, zero-mul, arith, lit<}
+use Rattle.std.proofs.Common.{ℕ, ◌*◌, ◌^◌, sym, ap, ◌∙◌, zero-mul, arith, lit<}
 use lib.Count.{count_leading_zeros}
 use Rattle.numeric.proofs.Units.{Moved, moved, units_low, normal_pattern, low_pattern}
 use Rattle.numeric.proofs.pattern_of.Goals as goal

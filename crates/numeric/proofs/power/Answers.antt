@@ -1,4 +1,4 @@
-use Rattle.std.proofs.Common.{◌≡◌, ℕ, ◌-◌, ◌*◌, ◌%◌, ◌^◌, sym, ap, ◌∙◌, one-mul, mul-one, arith, shl_exact}
+use Rattle.std.proofs.Common.{◌≡◌, ℕ, ◌*◌, ◌%◌, ◌^◌, sym, ap, ◌∙◌, one-mul, mul-one, arith, shl_exact}
 use lib.Pow.{pow-lt}
 use Rattle.numeric.proofs.Products.{squared}
 use Rattle.numeric.proofs.power.Goals as goal

@@ -1,5 +1,5 @@
 use mathlib.Core.Path.{◌≡◌, sym}
-use Prim.Native.Nat.{◌+◌, ◌-◌, ◌<◌}
+use Prim.Native.Nat.{◌+◌, ◌<◌}
 use native.Mathlib.Omega.{arith}
 use Rattle.text.specs.Text.{ascii, single_text}
 use Rattle.text.specs.laws.PutLaws.{put_none, put_length, put_within, put_then}

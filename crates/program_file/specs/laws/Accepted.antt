@@ -1,8 +1,7 @@
 -- What is read from a file of bytes is a program that the program check accepts; and the length that a file's contents tell is its length.
-use Rattle.std.specs.Prelude.{◌≡◌, refl, Bool, true, false, cond, ◌&&◌, List, [], ◌∷◌, ◌++◌, map, ℕ, ◌+◌, ◌-◌, ◌^◌, ◌/◌, ◌%◌, ◌<◌, leb, eqb, length, get_or, take, drop}
+use Rattle.std.specs.Prelude.{◌≡◌, refl, Bool, true, false, cond, ◌&&◌, List, [], ◌∷◌, ◌++◌, map, ℕ, ◌+◌, ◌-◌, ◌^◌, ◌/◌, ◌%◌, ◌<◌, leb, eqb, length, get_or, take}
 use Rattle.std.proofs.Common.{sym, ap, ap₂, ◌∙◌, subst, append_assoc, arith, length-append, take_at, le-leb}
 use Rattle.std.proofs.Math.Option.{some}
-use Rattle.std.proofs.lemmas.List.{length-map}
 use Rattle.lent.specs.Bytes.{be_value, be_bytes, part, same_bytes, concat, Each, none, more, AreBytes}
 use Rattle.lent.specs.Lists.{zeros, when, sum}
 use Rattle.lent.specs.laws.Cuts.{concat_length, cut_bytes}
@@ -14,9 +13,9 @@ use Rattle.opc.specs.laws.RecordRange.{AllSome, when_all, with_all}
 use Rattle.tables.specs.Tables.{Program}
 use Rattle.tables.specs.ProgramBytes.{decode_code, encode_program, decode_program}
 use Rattle.tables.specs.Limits.{program_ok}
-use Rattle.tables.specs.laws.ProgramLaws.{Limits, limits, program_behind}
+use Rattle.tables.specs.laws.ProgramLaws.{limits, program_behind}
 use Rattle.tables.specs.laws.ProgramRange.{CodeRange, code_range}
-use Rattle.program_file.specs.ProgramFile.{marks, spread, record_mask, record_from, records_from, records_in, pool_in, instr_count, record_count, contents_length, body_lengths, bodies_in, record_bodies, pool_items, program_file, file_length, read_program}
+use Rattle.program_file.specs.ProgramFile.{marks, spread, record_mask, record_from, records_from, records_in, pool_in, instr_count, record_count, contents_length, bodies_in, record_bodies, pool_items, program_file, file_length, read_program}
 use Rattle.program_file.specs.laws.ReadLaws.{assembled_file, read_assembled, file_is, items_counted, bodies_length}
 
 -- ---- bytes

@@ -1,13 +1,12 @@
 -- The longest file there can be has 24,281 bytes: no accepted program has a longer one, and one has it.
-use Rattle.std.specs.Prelude.{◌≡◌, refl, Bool, true, false, ◌&&◌, List, [], ◌∷◌, ◌++◌, map, ℕ, zero, suc, ◌+◌, ◌*◌, ◌≤◌, ◌<◌, leb, length, replicate}
-use Rattle.std.proofs.Common.{sym, ap, ap₂, ◌∙◌, arith, length-append, leb-true}
+use Rattle.std.specs.Prelude.{◌≡◌, refl, true, List, [], ◌∷◌, ◌++◌, map, ℕ, suc, ◌+◌, ◌*◌, ◌≤◌, leb, length, replicate}
+use Rattle.std.proofs.Common.{ap, ◌∙◌, arith, length-append, leb-true}
 use Rattle.std.proofs.Math.Decide.{dec_le}
 use Rattle.numeric.specs.Whole.{whole}
 use Rattle.std.proofs.lemmas.List.{length-map}
-use Rattle.lent.specs.Bytes.{be_bytes, concat}
+use Rattle.lent.specs.Bytes.{concat}
 use Rattle.lent.specs.Lists.{sum}
 use Rattle.lent.specs.laws.Cuts.{concat_length}
-use Rattle.lent.specs.laws.Numbers.{length_be_bytes}
 use Rattle.lent.specs.laws.Truths.{and_left, and_right}
 use Rattle.sifv.specs.Value.{Single, Num, Bl, Null, Value, One, Arr, Tab, Str as Text}
 use Rattle.sifv.specs.Slot.{singles_ok}
@@ -15,9 +14,9 @@ use Rattle.opc.specs.Op.{Op, Binary, Unary, Ldc, Ldn, Mv, Ldas, Ldav, Upda, Stc,
 use Rattle.opc.specs.Record.{items_of, literal_items, item_bytes, encode_instr, reg_ok, text_ok, lbl_ok}
 use Rattle.opc.specs.Limits.{instr_ok, op_ok, literal_ok}
 use Rattle.tables.specs.Tables.{Program}
-use Rattle.tables.specs.Limits.{item_total, code_ok, program_ok}
-use Rattle.tables.specs.laws.ProgramLaws.{Limits, limits}
-use Rattle.program_file.specs.ProgramFile.{record_body, item_body, pool_items, record_bodies, program_file, longest_file}
+use Rattle.tables.specs.Limits.{code_ok, program_ok}
+use Rattle.tables.specs.laws.ProgramLaws.{limits}
+use Rattle.program_file.specs.ProgramFile.{record_body, item_body, pool_items, program_file, longest_file}
 use Rattle.program_file.specs.laws.ReadLaws.{items_counted}
 
 -- ---- how long bodies are

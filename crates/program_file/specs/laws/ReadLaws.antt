@@ -1,9 +1,9 @@
 -- A program within the limits is read back from its file; and a file that is read is the file of its program: a program has one file only.
-use Rattle.std.specs.Prelude.{◌≡◌, refl, Bool, true, false, ◌&&◌, List, [], ◌∷◌, ◌++◌, map, ℕ, ◌+◌, ◌-◌, ◌<◌, leb, ltb, length, get_or, take, drop}
+use Rattle.std.specs.Prelude.{◌≡◌, refl, Bool, true, false, ◌&&◌, List, [], ◌∷◌, ◌++◌, map, ℕ, ◌+◌, ◌-◌, ◌<◌, leb, length, get_or, take, drop}
 use Rattle.std.proofs.Common.{sym, ap, ap₂, ◌∙◌, subst, append_assoc, append-nil, arith, length-append, take_at, drop_at, drop-drop, leb-true, lt-ltb}
 use Rattle.std.proofs.Math.Option.{Option, none, some}
 use Rattle.std.proofs.lemmas.List.{length-map}
-use Rattle.lent.specs.Bytes.{be_value, be_bytes, part, same_bytes, cut, concat, Each, none, more}
+use Rattle.lent.specs.Bytes.{be_value, be_bytes, part, same_bytes, cut, concat, Each, none}
 use Rattle.lent.specs.Lists.{zeros, pad, when, with}
 use Rattle.lent.specs.laws.Numbers.{be_value_be_bytes}
 use Rattle.lent.specs.laws.Same.{same_refl, same_eq}
@@ -17,8 +17,8 @@ use Rattle.opc.specs.Limits.{OpFits, instr_ok, op_ok, literal_ok, params_ok}
 use Rattle.tables.specs.Tables.{Program}
 use Rattle.tables.specs.ProgramBytes.{record_bytes, pool_bytes, decode_code}
 use Rattle.tables.specs.Limits.{item_total, code_ok, program_ok}
-use Rattle.tables.specs.laws.ProgramLaws.{Limits, limits, code_back}
-use Rattle.program_file.specs.ProgramFile.{record_body, item_body, pool_items, record_bodies, program_file, record_from, records_from, item_from, records_in, pool_in, instr_count, record_count, contents_length, body_lengths, bodies_in, read_program}
+use Rattle.tables.specs.laws.ProgramLaws.{limits, code_back}
+use Rattle.program_file.specs.ProgramFile.{record_body, item_body, pool_items, record_bodies, program_file, records_from, item_from, records_in, pool_in, instr_count, record_count, bodies_in, read_program}
 use Rattle.program_file.specs.laws.BodyLaws.{body_back, entries, item_body_back}
 
 -- ---- records

@@ -1,4 +1,4 @@
-use Rattle.std.proofs.Common.{◌-◌, arith}
+use Rattle.std.proofs.Common.{arith}
 use Rattle.records.specs.inner.Fits.{entry_ok}
 use Rattle.records.proofs.Scan.{scan_start, scan_turn, scan_end}
 use Rattle.records.proofs.entries_ok.Goals as goal

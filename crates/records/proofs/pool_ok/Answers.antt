@@ -1,4 +1,4 @@
-use Rattle.std.proofs.Common.{◌-◌, arith}
+use Rattle.std.proofs.Common.{arith}
 use Rattle.records.proofs.PoolSteps.{pool_first, pool_turn, pool_small, pool_end}
 use Rattle.records.proofs.pool_ok.Goals as goal
 

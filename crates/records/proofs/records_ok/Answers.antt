@@ -1,4 +1,4 @@
-use Rattle.std.proofs.Common.{◌-◌, arith}
+use Rattle.std.proofs.Common.{arith}
 use Rattle.records.specs.inner.Fits.{record_ok}
 use Rattle.records.proofs.Scan.{scan_first, scan_turn, scan_end}
 use Rattle.records.proofs.records_ok.Goals as goal

@@ -1,11 +1,10 @@
 use mathlib.Core.Path.{refl, sym, ap, ap₂, ◌∙◌}
-use Prim.Native.Nat.{◌+◌, ◌*◌, ◌-◌}
+use Prim.Native.Nat.{◌+◌, ◌*◌}
 use native.Mathlib.Omega.{arith}
 use Rattle.lent.specs.Bytes.{be_value, part}
 use Rattle.lent.specs.laws.Parts.{get_d_part, part_part}
 use Rattle.sifv.specs.inner.Tests.{item_ok, item_test}
 use Rattle.sifv.specs.laws.Direct.{upto_turn, upto_end}
-use Rattle.lent.specs.Lists.{upto}
 use Rattle.sifv.proofs.each_ok.Goals as goal
 
 pub loop-i-init : goal.loop-i-init

@@ -1,12 +1,11 @@
 use mathlib.Core.Path.{refl, sym, ap}
-use Prim.Native.Nat.{ℕ, ◌+◌, ◌-◌}
+use Prim.Native.Nat.{ℕ, ◌+◌}
 use native.Mathlib.Omega.{arith}
 use lib.Dec.{eqb}
 use Rattle.lent.specs.Bytes.{part}
 use Rattle.lent.specs.laws.Parts.{get_d_part}
 use Rattle.sifv.specs.inner.Tests.{number_test}
 use Rattle.sifv.specs.laws.Direct.{upto_turn, upto_end}
-use Rattle.lent.specs.Lists.{upto}
 use Rattle.sifv.proofs.numbers.Goals as goal
 
 pub loop-i-init : goal.loop-i-init

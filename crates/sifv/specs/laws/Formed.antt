@@ -17,8 +17,6 @@ use Rattle.sifv.specs.Slot.{single_kind, word_of, single_of, encode_slot, decode
 use Rattle.sifv.specs.inner.Seen.{seen, single_seen, head_bytes, kind_in, word_in, set_item}
 use Rattle.sifv.specs.laws.Laws.{decode_single, word_plain}
 use Rattle.sifv.specs.laws.Items.{put_item_law}
-use Rattle.sifv.specs.declared.SifVal.{SifVal}
-use Rattle.sifv.specs.declared.SifVal.TheVariants.{Num, Str, Bl, Null, Arr, Tab}
 use Rattle.lent.specs.Lists.{zeros}
 use Rattle.sifv.specs.inner.Forms.{Formed, len_in}
 

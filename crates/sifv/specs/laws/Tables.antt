@@ -9,7 +9,6 @@ use Rattle.sifv.specs.inner.Seen.{found, slot_item, entries_in}
 use Rattle.sifv.specs.laws.Laws.{length_singles, length_entries}
 use Rattle.sifv.specs.laws.Items.{contents_item}
 use Rattle.sifv.specs.laws.Places.{place_here, place_on, place_end, key_past, key_here}
-use Rattle.sifv.specs.declared.SifVal.{SifVal}
 use Rattle.sifv.specs.declared.SifVal.TheVariants.{Empty}
 use Rattle.sifv.specs.inner.Forms.{place, key_there}
 

@@ -1,5 +1,4 @@
 use mathlib.Core.Path.{refl}
-use Prim.Native.Nat.{◌-◌}
 use native.Mathlib.Omega.{arith}
 use Rattle.state.specs.inner.Fields.{stack_test, stack_ok}
 use Rattle.state.specs.laws.Checks.{scan_turn, scan_end}

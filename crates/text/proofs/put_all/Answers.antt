@@ -1,7 +1,6 @@
 use Rattle.text.specs.laws.PutLaws.{put_none, put_within, put_next, put_length}
 use lib.Seq.{take-length}
-use lib.ListN.{length, take}
-use Prim.Native.Nat.{◌-◌}
+use lib.ListN.{length}
 use mathlib.Core.Path.{◌≡◌}
 use native.Mathlib.Omega.{arith}
 use Rattle.text.proofs.put_all.Goals as goal

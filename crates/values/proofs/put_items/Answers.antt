@@ -1,7 +1,6 @@
 use Rattle.text.specs.laws.PutLaws.{put_none, put_length, put_within}
 use Rattle.values.specs.laws.SlotTextLaws.{items_turn}
 use Rattle.lent.specs.Bytes.{part}
-use Prim.Native.Nat.{◌-◌}
 use mathlib.Core.Path.{◌≡◌}
 use native.Mathlib.Omega.{arith}
 use Rattle.values.proofs.put_items.Goals as goal

@@ -12,7 +12,7 @@ use Rattle.sifv.specs.inner.Seen.{shown, seen, single_seen, kind_in, slot_item, 
 use Rattle.sifv.specs.laws.Laws.{plain_shown, length_singles, length_entries, decode_empty, decode_single, decode_arr, decode_tab, decode_other}
 use Rattle.sifv.specs.laws.Items.{contents_more}
 use Rattle.sifv.specs.declared.SifVal.{SifVal}
-use Rattle.sifv.specs.declared.SifVal.TheVariants.{Empty, Num, Str, Bl, Null, Arr, Tab}
+use Rattle.sifv.specs.declared.SifVal.TheVariants.{Empty, Arr, Tab}
 use Rattle.text.specs.Text.{ascii, decimal, single_text, entry_text, joined, value_text, separator}
 use Rattle.text.specs.Put.{Put}
 use Rattle.text.specs.laws.PutLaws.{put_as, put_none}

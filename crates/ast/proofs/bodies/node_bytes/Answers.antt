@@ -1,6 +1,5 @@
 use Rattle.ast.proofs.Scan.{sizes_next, sizes_end}
 use native.Mathlib.Omega.{arith}
-use Prim.Native.Nat.{◌-◌}
 use Rattle.ast.proofs.bodies.node_bytes.Goals as goal
 
 pub loop-i-init : goal.loop-i-init

@@ -1,8 +1,5 @@
 use Rattle.ast.proofs.Scan.{sum_next, sum_end}
-use lib.ListN.{length}
 use native.Mathlib.Omega.{arith}
-use Prim.Native.Nat.{◌-◌}
-use Rattle.lent.specs.Lists.{sum}
 use Rattle.ast.proofs.bodies.text_bytes.Goals as goal
 
 pub loop-i-init : goal.loop-i-init

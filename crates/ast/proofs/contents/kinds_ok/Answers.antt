@@ -1,6 +1,5 @@
-use Prim.Native.Nat.{◌-◌}
 use Rattle.ast.proofs.Scan.{turn, done, firsts_next, firsts_end}
-use Rattle.ast.specs.File.{between, firsts}
+use Rattle.ast.specs.File.{between}
 use native.Mathlib.Omega.{arith}
 use mathlib.Core.Path.{refl, ap}
 use Rattle.lent.specs.Lists.{all}

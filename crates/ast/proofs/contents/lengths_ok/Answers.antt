@@ -1,10 +1,8 @@
 use Rattle.ast.proofs.Scan.{turn, done, all_next, all_end}
-use lib.ListN.{length}
 use lib.Dec.{leb}
 use native.Mathlib.Omega.{arith}
-use Prim.Native.Nat.{ℕ, ◌-◌}
+use Prim.Native.Nat.{ℕ}
 use mathlib.Core.Path.{refl}
-use Rattle.lent.specs.Lists.{all}
 use Rattle.ast.proofs.contents.lengths_ok.Goals as goal
 
 pub loop-i-init : goal.loop-i-init

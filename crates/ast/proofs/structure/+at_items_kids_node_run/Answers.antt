@@ -3,12 +3,11 @@ use mathlib.Core.Bool.{not}
 use Rattle.ast.proofs.Steps.{at_stop, at_go, start, run_turn, run_end, keyed_turn, keyed_end, no_node, not_there, starts, table_node, other_node}
 use Rattle.ast.proofs.Agree.{here}
 use Rattle.ast.proofs.Rooms.{first, to_end}
-use Rattle.ast.specs.inner.Pass as places
 use Rattle.ast.specs.inner.Pass.{stands, refuses}
 use lib.ListN.{get_or, length-drop}
 use borrow.Author.Tests.{not-true, not-false}
 use native.Mathlib.Omega.{arith}
-use mathlib.Core.Bool.{true, false}
+use mathlib.Core.Bool.{true}
 use mathlib.Core.Path.{◌≡◌, sym, ◌∙◌}
 use Rattle.ast.proofs.structure.+at_items_kids_node_run.Goals as goal
 

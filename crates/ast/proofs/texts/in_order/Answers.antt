@@ -2,12 +2,11 @@ use native.Mathlib.Nat.{sub-zero}
 use Rattle.ast.proofs.Cuts.{ascending_next, ascending_end, part_end, cut_first, sum_first, cut_none}
 use Rattle.ast.proofs.Scan.{turn, done, sum_next}
 use Rattle.ast.specs.File.{cut, ascending}
-use lib.ListN.{get_or, length, take, drop}
+use lib.ListN.{get_or, take, drop}
 use native.Mathlib.Omega.{arith}
-use Prim.Native.Nat.{ℕ, ◌-◌}
+use Prim.Native.Nat.{ℕ}
 use mathlib.Core.Path.{ap, sym, ◌∙◌}
 use mathlib.Core.List.{◌∷◌}
-use Rattle.lent.specs.Lists.{sum}
 use Rattle.ast.proofs.texts.in_order.Goals as goal
 
 pub returns-then-lengths-eq0 : goal.returns-then-lengths-eq0

@@ -1,14 +1,13 @@
 use Rattle.ast.proofs.Cuts.{cut_next, cut_end, part_end}
 use Rattle.ast.proofs.Scan.{turn, done, sum_next}
-use Rattle.ast.specs.File.{cut, fortmp}
+use Rattle.ast.specs.File.{fortmp}
 use Rattle.lent.specs.Bytes.{same_bytes}
-use lib.ListN.{length}
 use native.Mathlib.Omega.{arith}
-use Prim.Native.Nat.{ℕ, ◌-◌}
+use Prim.Native.Nat.{ℕ}
 use mathlib.Core.List.{List}
 use mathlib.Core.Bool.{not}
 use mathlib.Core.Path.{refl, ap}
-use Rattle.lent.specs.Lists.{sum, all}
+use Rattle.lent.specs.Lists.{all}
 use Rattle.ast.proofs.texts.none_fortmp.Goals as goal
 
 pub loop-i-init : goal.loop-i-init

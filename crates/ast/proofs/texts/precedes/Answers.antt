@@ -1,6 +1,5 @@
 use Rattle.ast.proofs.Compare.{before_short, before_ends, before_less, before_more, before_same}
 use native.Mathlib.Omega.{arith}
-use Prim.Native.Nat.{◌-◌}
 use mathlib.Core.Path.{refl, sym, ◌∙◌}
 use Rattle.ast.proofs.texts.precedes.Goals as goal
 

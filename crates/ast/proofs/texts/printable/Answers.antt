@@ -1,9 +1,7 @@
 use Rattle.ast.proofs.Scan.{turn, done, all_next, all_end}
 use Rattle.ast.specs.File.{between}
 use native.Mathlib.Omega.{arith}
-use Prim.Native.Nat.{◌-◌}
 use mathlib.Core.Path.{refl}
-use Rattle.lent.specs.Lists.{all}
 use Rattle.ast.proofs.texts.printable.Goals as goal
 
 pub loop-i-init : goal.loop-i-init

@@ -1,8 +1,6 @@
 use mathlib.Core.Path.{◌≡◌, ◌∙◌}
-use Prim.Native.Nat.{◌-◌}
 use native.Mathlib.Omega.{arith}
 use Rattle.sifv.specs.laws.Tables.{place_found, place_turn, place_none}
-use Rattle.sifv.specs.inner.Forms.{place}
 use Rattle.sifv.proofs.table.key_place.Goals as goal
 
 pub loop-i-init : goal.loop-i-init

@@ -1,7 +1,7 @@
 use mathlib.Core.Path.{◌≡◌, refl, sym, ap, ◌∙◌}
 use Prim.Native.Nat.{ℕ, ◌+◌, ◌-◌}
 use native.Mathlib.Omega.{arith}
-use lib.ListN.{length, length-set}
+use lib.ListN.{length-set}
 use Rattle.lent.specs.Bytes.{part, splice}
 use Rattle.sifv.specs.laws.Gaps.{opened_none, open_length, open_turn}
 use Rattle.sifv.specs.inner.Forms.{opened}

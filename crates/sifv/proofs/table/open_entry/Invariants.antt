@@ -1,6 +1,6 @@
 -- `sifv::table::open_entry` meets its contract. The loop's invariant: the entries from j on are moved.
 use mathlib.Core.Path.{◌≡◌}
-use Prim.Native.Nat.{◌-◌, ◌≤◌}
+use Prim.Native.Nat.{◌≤◌}
 use lib.ListN.{length}
 use Rattle.lent.specs.Bytes.{part, splice}
 use Rattle.sifv.specs.inner.Forms.{opened}
