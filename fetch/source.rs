@@ -83,6 +83,7 @@ impl Sources {
             let name = format!("{module}::{}", words.get(at + 1)?);
             at = match words[at].as_str() {
                 "pub" | "ghost" => at + 1,
+                "#" => attribute(words, at)?,
                 "use" | "mod" => next(words, at, &[";"]) + 1,
                 "struct" | "enum" => self.declared(words, at)?,
                 "const" => {
@@ -236,6 +237,18 @@ impl Sources {
         let word = names(module, word).iter().find_map(|name| self.constants.get(name)).map_or(word, String::as_str);
         whole(word).is_some_and(u64::is_power_of_two)
     }
+}
+
+/// Behind an attribute that adds no code, or none that multiplies: the tactics of a file or a function, a cycle of calls, copies.
+fn attribute(words: &[String], at: usize) -> Option<usize> {
+    let open = at + 1 + usize::from(words.get(at + 1)? == "!");
+    let plain = match words.get(open + 1)?.as_str() {
+        "tactic" | "cycle" => true,
+        "derive" => words.get(open + 2..open + 7)? == ["(", "Clone", ",", "Copy", ")"],
+        _ => false,
+    };
+    let end = next(words, open + 1, &["]"]);
+    (words[open] == "[" && plain && end < words.len()).then_some(end + 1)
 }
 
 /// What a path in a module may name: an item of the module, or one by its whole path.

@@ -3,7 +3,7 @@ use crate::source::Edit;
 use crate::told;
 
 /// An edit, and how a fault must begin: with the function, or with one that is no longer found, since its file is not read.
-const WRONG: [(Edit, &str); 28] = [
+const WRONG: [(Edit, &str); 29] = [
     (edit("opc", "    RECORD_SIZE * index\n", "    24 * index\n"), "opc::place"),
     (edit("opc", "    RECORD_SIZE * index\n", "    3 * 8 * index\n"), "opc::place"),
     (edit("opc", "    RECORD_SIZE * index\n", "    (16 + 8) * index\n"), "opc::place"),
@@ -28,6 +28,7 @@ const WRONG: [(Edit, &str); 28] = [
     (edit("execute", "    r * sifv::VALUE_SIZE\n", "    /* } */\n    r * 257\n"), UNREAD),
     (edit("execute", "    r * sifv::VALUE_SIZE\n", "    let e = b'}';\n    r * 257\n"), UNREAD),
     (edit("numeric", "const SIGN: u64 = 0x8000_0000_0000_0000;", "const SIGN: u64 = 16 + 1;"), "numeric::canonical"),
+    (edit("execute", "#[derive(Clone, Copy)]\n", "#[derive(Clone, Copy, Scaled)]\n"), UNREAD),
     (edit("execute", "// ---- places\n", "impl Loc {\n    fn far(r: usize) -> usize {\n        r * 257\n    }\n}\n"), UNREAD),
     (edit("execute", "    r * sifv::VALUE_SIZE\n", "    Loc::far(r)\n"), "execute::reg"),
     (
