@@ -37,16 +37,15 @@ told = $(patsubst $(PREFIX)/%,$${prefix}/%,$(1))
 all: $(made)/VERDICT
 
 # The verdicts come last, the library's and the program's, each behind its name: where they stand, the rest does.
-# (listing.say is what the prover said when it proved the program; listing.out is written again when there is nothing to prove.)
-$(made)/VERDICT: crates.txt $(shell find crates)
-	rt check engine listing
+$(made)/VERDICT: crates.txt $(shell find crates -name out -prune -o -print)
+	install/build listing
 	compare/library
 	install -d $(made)
 	install -m 644 target/staticlib/libengine.a $(made)/libsif.a
 	install -m 755 target/bin/listing $(made)/sif-listing
 	rt version > $(made)/KIT
 	sed 's/^/libsif.a: /' target/cross/verdict > $@
-	grep -E '^(logic=proved|axioms) ' target/log/listing.say | sed 's/^/sif-listing: /' >> $@
+	sed 's/^/sif-listing: /' target/verdict/listing >> $@
 
 install: all
 	install -d $(sort $(addprefix $(DESTDIR),$(dir $(installed))))
@@ -76,4 +75,4 @@ check:
 	./test
 
 clean:
-	rm -rf target */target compare/*/target
+	rm -rf target */target compare/*/target crates/*/out

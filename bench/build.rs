@@ -1,4 +1,4 @@
-//! Links the engine's static library (SIF_ENGINE, or the one that `rt staticlib engine` makes) and
+//! Links the engine's static library (SIF_ENGINE, or the one that `install/build engine` makes) and
 //! the run calls by hand, compiled by `bench/run`.
 
 use std::env;

@@ -36,13 +36,14 @@ struct File {
     aliases: BTreeMap<String, String>,
     items: Vec<Item>,
     places: BTreeMap<String, usize>,
-    /// how operators bind: `infixl 20 _>>=_`
+    /// how operators bind: `infixl 20 ◌>>=◌`
     fixities: Vec<String>,
 }
 
 pub struct Library {
     files: Vec<File>,
     modules: BTreeMap<String, usize>,
+    crates: BTreeSet<String>,
 }
 
 /// The names in a text: what stands between blanks, brackets and the like. A field's name, behind a
@@ -65,10 +66,13 @@ pub fn import(text: &str, imports: &mut BTreeMap<String, (String, String)>, alia
     }
 }
 
+/// The gap in an operator's name.
+const GAP: char = '◌';
+
 /// A name as it is written where it is used: an operator without its gaps.
 fn written(name: &str) -> Vec<String> {
-    if name.contains('_') && name != "_" {
-        name.split('_').filter(|p| !p.is_empty()).map(str::to_string).collect()
+    if name.contains(GAP) {
+        name.split(GAP).filter(|p| !p.is_empty()).map(str::to_string).collect()
     } else {
         vec![name.to_string()]
     }
@@ -91,17 +95,14 @@ fn module_of(path: &str) -> Option<String> {
     Some(format!("{name}.{}", inside.replace('/', ".")))
 }
 
-/// The same from a `use`: `Rattle·sifv.specs.Slot` or, in the crate itself, `Rattle·sifv·specs.specs.Slot`.
+/// The same from a `use`: `Rattle.sifv.specs.Slot`, also of a library that is not the project's.
 fn module_named(used: &str) -> Option<String> {
-    let rest = used.strip_prefix("Rattle·")?;
-    let (name, inside) = rest.split_once('.')?;
-    let name = name.split('·').next().unwrap_or(name);
-    Some(format!("{name}.{inside}"))
+    used.strip_prefix("Rattle.").map(str::to_string)
 }
 
 /// What an imported name leads to that is no item of the project.
 pub fn outside(imports: &BTreeMap<String, (String, String)>, aliases: &BTreeMap<String, String>, token: &str) -> Option<Led> {
-    let operator = || imports.iter().find(|(i, _)| i.contains('_') && written(i).iter().any(|p| p == token)).map(|(_, from)| from.clone());
+    let operator = || imports.iter().find(|(i, _)| i.contains(GAP) && written(i).iter().any(|p| p == token)).map(|(_, from)| from.clone());
     let aliased = || token.split_once('.').and_then(|(alias, name)| Some((aliases.get(alias)?.clone(), name.to_string())));
     let (module, name) = imports.get(token).cloned().or_else(operator).or_else(aliased)?;
     Some(Led::Outside(module_named(&module).unwrap_or(module), name))
@@ -264,8 +265,9 @@ impl Library {
 
     /// The library of some files: their paths below the root, and what is in them.
     pub fn of(sources: Vec<(String, String)>) -> Library {
-        let mut library = Library { files: Vec::new(), modules: BTreeMap::new() };
+        let mut library = Library { files: Vec::new(), modules: BTreeMap::new(), crates: BTreeSet::new() };
         for (path, text) in sources {
+            library.crates.extend(path.split('/').nth(1).map(str::to_string));
             if let Some(module) = module_of(&path) {
                 library.modules.insert(module, library.files.len());
             }
@@ -292,6 +294,13 @@ impl Library {
             return Some(Led::Here(need));
         }
         outside(&file.imports, &file.aliases, token)
+    }
+
+    /// Whether a module, as a `use` names it, is of a crate of the project.
+    pub fn has_crate(&self, used: &str) -> bool {
+        let named = module_named(used);
+        let name = named.as_deref().and_then(|n| n.split('.').next());
+        name.is_some_and(|name| self.crates.contains(name))
     }
 
     fn file(&self, path: &str) -> Option<usize> {
@@ -331,7 +340,7 @@ impl Library {
             return self.named(module, name);
         }
         for (imported, (module, name)) in &file.imports {
-            if imported.contains('_') && written(imported).iter().any(|p| p == token) {
+            if imported.contains(GAP) && written(imported).iter().any(|p| p == token) {
                 return self.named(module, name);
             }
         }
@@ -371,7 +380,7 @@ impl Library {
             }
             for token in &item.tokens {
                 let Some((module, name)) = file.cited(token) else { continue };
-                if module.starts_with("Rattle·") && !module.contains(".declared.") && self.resolve(file, f, token).is_none() {
+                if self.has_crate(&module) && !module.contains(".declared.") && self.resolve(file, f, token).is_none() {
                     faults.insert(format!("{} cites {name} of {module}, which is not found", file.path));
                 }
             }
@@ -414,7 +423,7 @@ impl Library {
         let mut places: BTreeMap<&str, Vec<&str>> = BTreeMap::new();
         for (f, i) in needs {
             let name = self.files[*f].items[*i].names[0].as_str();
-            if self.files[*f].path.contains("/specs/") && !name.contains('_') {
+            if self.files[*f].path.contains("/specs/") && !name.contains(GAP) {
                 places.entry(name).or_default().push(&self.files[*f].path);
             }
         }

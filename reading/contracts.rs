@@ -160,7 +160,7 @@ fn function(line: &str) -> Option<String> {
 /// A name that is imported from the project, and not found there; structs and enums of src/ are not looked for.
 fn lost(library: &Library, imports: &Imports, token: &str) -> bool {
     let Some((module, name)) = imports.get(token) else { return false };
-    module.starts_with("Rattle·") && !module.contains(".declared.") && library.named(module, name).is_none()
+    library.has_crate(module) && !module.contains(".declared.") && library.named(module, name).is_none()
 }
 
 pub fn resolve(library: &Library, imports: &Imports, aliases: &BTreeMap<String, String>, token: &str) -> Option<Need> {

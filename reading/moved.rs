@@ -166,10 +166,11 @@ fn inside(path: &str) -> &str {
 }
 
 /// A file's place as it is told: without `crates/`, its ending and a proof's file name.
+/// (A function's invariants and its answers are told as one proof.)
 fn place(path: &str) -> &str {
     let path = path.strip_prefix("crates/").unwrap_or(path);
     let path = path.strip_suffix(".antt").or(path.strip_suffix(".rt")).unwrap_or(path);
-    path.strip_suffix("/Proof").unwrap_or(path)
+    ["/Proof", "/Answers", "/Invariants"].iter().find_map(|file| path.strip_suffix(file)).unwrap_or(path)
 }
 
 /// How much of two texts is the same, from 0 to 1: words that both have, of all words.

@@ -6,23 +6,23 @@ const FILES: [(&str, &str); 9] = [
     (
         "crates/low/specs/Size.antt",
         "-- Sizes.
-use Prim.Native.Nat.{ℕ, _+_}
+use Rattle.std.specs.Prelude.{ℕ, ◌+◌}
 use lib.Count.{one}
 
 -- one more
 abbrev pub size : ℕ → ℕ
 size n = n + one
 
-infixl 20 _⊕_
+infixl 20 ◌⊕◌
 
-abbrev pub _⊕_ : ℕ → ℕ → ℕ
+abbrev pub ◌⊕◌ : ℕ → ℕ → ℕ
 m ⊕ n = size (m + n)
 ",
     ),
     (
         "crates/low/specs/Twice.antt",
-        "use Rattle·low·specs.specs.Size.{size}
-use Rattle·low·specs.specs.declared.Sort.{Sort}
+        "use Rattle.low.specs.Size.{size}
+use Rattle.low.specs.declared.Sort.{Sort}
 
 abbrev pub twice : Sort → ℕ → ℕ
 twice s n = size (size n)
@@ -43,18 +43,18 @@ twice s n = size (size n)
     ("crates/low/specs/inner/Seen.antt", "abbrev pub seen : ℕ → Bool\nseen n = ltb n 9\n"),
     (
         "crates/low/specs/laws/SizeLaws.antt",
-        "use Rattle·low·specs.specs.Size.{size}
+        "use Rattle.low.specs.Size.{size}
 
 module _ (n : ℕ) where
   pub grows : n < size n
   grows = omega arith
 ",
     ),
-    ("crates/low/proofs/bump/Proof.antt", "returns : tie.Need-returns\nreturns c = c .before .ensures\n"),
+    ("crates/low/proofs/bump/Answers.antt", "use Rattle.low.proofs.bump.Goals as goal\n\npub returns : goal.returns\nreturns c = c.bounds.given\n"),
     (
         "crates/low/src/lib.rt",
-        "ghost use Rattle·low·specs.specs.Size.{size};
-ghost use Prim.Native.Nat.{_<_};
+        "ghost use Rattle.low.specs.Size.{size};
+ghost use Rattle.std.specs.Prelude.{◌≡◌, ◌<◌};
 
 pub enum Sort {
     Small,
@@ -63,15 +63,15 @@ pub enum Sort {
 
 // One more.
 pub fn bump(n: u64, most: u64) -> u64
-    requires { ⌜ n < most ⌝ }
-    ensures { λ r. ⌜ r ≡ size n ⌝ }
+    requires { n < most }
+    ensures { result ≡ size n }
 {
     n + 1
 }
 ",
     ),
     ("crates/other/specs/Size.antt", "abbrev pub size : ℕ → ℕ\nsize n = suc (suc (suc n))\n"),
-    ("crates/high/specs/Rule.antt", "use Rattle·low.specs.Size.{size}\n\nabbrev pub rule : ℕ → Bool\nrule n = ltb (size n) 7\n"),
+    ("crates/high/specs/Rule.antt", "use Rattle.low.specs.Size.{size}\n\nabbrev pub rule : ℕ → Bool\nrule n = ltb (size n) 7\n"),
 ];
 
 /// An edit of the tree.
@@ -88,7 +88,7 @@ const TWICE: &str = "crates/low/specs/Twice.antt";
 const EVEN: &str = "crates/low/specs/Even.antt";
 const SEEN: &str = "crates/low/specs/inner/Seen.antt";
 const LAWS: &str = "crates/low/specs/laws/SizeLaws.antt";
-const PROOF: &str = "crates/low/proofs/bump/Proof.antt";
+const PROOF: &str = "crates/low/proofs/bump/Answers.antt";
 const CODE: &str = "crates/low/src/lib.rt";
 const RULE: &str = "crates/high/specs/Rule.antt";
 
@@ -98,7 +98,7 @@ const TRIALS: &[(&[Edit], &[&str])] = &[
     (&[Text(CODE, "bump(n: u64, most: u64) -> u64", "bump(\n    n: u64,\n    most: u64,\n) -> u64"), Text(CODE, "// One more.\n", "")], &[]),
     (&[Text(SIZE, "n + one", "one + n")], &["definitions to believe: low: moved size; 5 stayed"]),
     (&[Text(SIZE, "size : ℕ → ℕ", "size : ℕ → Bool")], &["definitions to believe: low: moved size; 5 stayed"]),
-    (&[Text(SIZE, "infixl 20", "infixr 20")], &["definitions to believe: low: moved infix _⊕_; 5 stayed"]),
+    (&[Text(SIZE, "infixl 20", "infixr 20")], &["definitions to believe: low: moved infix ◌⊕◌; 5 stayed"]),
     (
         &[Text(TWICE, "twice : Sort → ℕ → ℕ\ntwice s n = size (size n)", "thrice : ℕ → Bool\nthrice k = ltb 0 k")],
         &["definitions to believe: low: new thrice; gone twice; 5 stayed"],
@@ -111,23 +111,23 @@ const TRIALS: &[(&[Edit], &[&str])] = &[
     (
         &[
             File(SIZE, "crates/deep/specs/Size.antt"),
-            Text(TWICE, "Rattle·low·specs.specs.Size", "Rattle·deep.specs.Size"),
-            Text(LAWS, "Rattle·low·specs.", "Rattle·deep."),
-            Text(CODE, "Rattle·low·specs.", "Rattle·deep."),
-            Text(RULE, "Rattle·low.", "Rattle·deep."),
+            Text(TWICE, "Rattle.low.specs.Size", "Rattle.deep.specs.Size"),
+            Text(LAWS, "Rattle.low.", "Rattle.deep."),
+            Text(CODE, "Rattle.low.", "Rattle.deep."),
+            Text(RULE, "Rattle.low.", "Rattle.deep."),
         ],
-        &["definitions to believe: deep: 3 from low/specs/Size to deep/specs/Size: _⊕_, infix _⊕_, size; 0 stayed"],
+        &["definitions to believe: deep: 3 from low/specs/Size to deep/specs/Size: infix ◌⊕◌, size, ◌⊕◌; 0 stayed"],
     ),
     (
         &[
             File(SIZE, "crates/deep/specs/Size.antt"),
             Text(SIZE, "n + one", "one + n"),
-            Text(TWICE, "Rattle·low·specs.specs.Size", "Rattle·deep.specs.Size"),
-            Text(LAWS, "Rattle·low·specs.", "Rattle·deep."),
-            Text(CODE, "Rattle·low·specs.", "Rattle·deep."),
-            Text(RULE, "Rattle·low.", "Rattle·deep."),
+            Text(TWICE, "Rattle.low.specs.Size", "Rattle.deep.specs.Size"),
+            Text(LAWS, "Rattle.low.", "Rattle.deep."),
+            Text(CODE, "Rattle.low.", "Rattle.deep."),
+            Text(RULE, "Rattle.low.", "Rattle.deep."),
         ],
-        &["definitions to believe: deep: moved size (from low/specs/Size); 2 from low/specs/Size to deep/specs/Size: _⊕_, infix _⊕_; 0 stayed"],
+        &["definitions to believe: deep: moved size (from low/specs/Size); 2 from low/specs/Size to deep/specs/Size: infix ◌⊕◌, ◌⊕◌; 0 stayed"],
     ),
     (&[File(SEEN, "crates/low/specs/Seen.antt")], &["definitions to believe: low: 1 from low/specs/inner/Seen to low/specs/Seen: seen; 6 stayed"]),
     (&[Text(EVEN, "abbrev mutual", "mutual")], &["definitions to believe: low: moved even, odd; 4 stayed"]),
@@ -144,40 +144,40 @@ const TRIALS: &[(&[Edit], &[&str])] = &[
         &["laws: low: new grows; 1 stayed", "proofs: low: new those of new laws; 2 stayed"],
     ),
     // the same text with another meaning
-    (&[Text(RULE, "Rattle·low.", "Rattle·other.")], &["definitions to believe: high: the same text, citing another rule (size); 1 stayed"]),
+    (&[Text(RULE, "Rattle.low.", "Rattle.other.")], &["definitions to believe: high: the same text, citing another rule (size); 1 stayed"]),
     (&[Text(SIZE, "lib.Count.", "lib.Zero.")], &["definitions to believe: low: the same text, citing another size (one); 6 stayed"]),
     (
-        &[Text(SIZE, "{ℕ, _+_}", "{ℕ}\nuse lib.Bounded.{_+_}")],
-        &["definitions to believe: low: the same text, citing another _⊕_ (+), size (+); 6 stayed"],
+        &[Text(SIZE, "{ℕ, ◌+◌}", "{ℕ}\nuse lib.Bounded.{◌+◌}")],
+        &["definitions to believe: low: the same text, citing another size (+), ◌⊕◌ (+); 6 stayed"],
     ),
     (
-        &[Text(TWICE, "Rattle·low·specs.specs.declared", "Rattle·other.specs.declared")],
+        &[Text(TWICE, "Rattle.low.specs.declared", "Rattle.other.specs.declared")],
         &["definitions to believe: low: the same text, citing another twice (Sort); 6 stayed"],
     ),
     (
-        &[Text(SIZE, "{ℕ, _+_}", "{ℕ}\nuse lib.Bounded.{_+_}"), Text(SIZE, "lib.Count.", "lib.Zero.")],
-        &["definitions to believe: low: the same text, citing another _⊕_ (+), size (+, one); 6 stayed"],
+        &[Text(SIZE, "{ℕ, ◌+◌}", "{ℕ}\nuse lib.Bounded.{◌+◌}"), Text(SIZE, "lib.Count.", "lib.Zero.")],
+        &["definitions to believe: low: the same text, citing another size (+, one), ◌⊕◌ (+); 6 stayed"],
     ),
-    (&[Text(CODE, "Prim.Native.Nat.", "lib.Order.")], &["contracts: low: the same text, citing another bump (<); 1 stayed"]),
-    (&[Text(CODE, "Rattle·low·specs.", "Rattle·other.")], &["contracts: low: the same text, citing another bump (size); 1 stayed"]),
+    (&[Text(CODE, "Rattle.std.specs.Prelude.{◌≡◌, ◌<◌}", "Rattle.std.specs.Prelude.{◌≡◌};\nghost use lib.Order.{◌<◌}")], &["contracts: low: the same text, citing another bump (<); 1 stayed"]),
+    (&[Text(CODE, "Rattle.low.", "Rattle.other.")], &["contracts: low: the same text, citing another bump (size); 1 stayed"]),
     (&[Text(LAWS, "(n : ℕ)", "{n : ℕ}")], &["laws: low: moved grows; 0 stayed"]),
     (&[Text(LAWS, "omega arith", "omega (arith, one)")], &["proofs: low: moved grows; 1 stayed"]),
     (&[Text(LAWS, "  grows =", "  unfolding size\n  grows =")], &["proofs: low: moved grows; 1 stayed"]),
     (
-        &[File(LAWS, "crates/high/specs/laws/SizeLaws.antt"), Text(LAWS, "Rattle·low·specs.", "Rattle·low.")],
+        &[File(LAWS, "crates/high/specs/laws/SizeLaws.antt")],
         &[
             "laws: high: 1 from low/specs/laws/SizeLaws to high/specs/laws/SizeLaws: grows; 0 stayed",
             "proofs: high: 1 from low/specs/laws/SizeLaws to high/specs/laws/SizeLaws: grows; 0 stayed",
         ],
     ),
-    (&[Text(PROOF, "c .before", "c .after")], &["proofs: low: moved bump; 1 stayed"]),
+    (&[Text(PROOF, "c.bounds", "c.limits")], &["proofs: low: moved bump; 1 stayed"]),
     (&[Text(CODE, "n < most", "n ≤ most")], &["contracts: low: moved bump; 0 stayed"]),
-    (&[Text(CODE, "    requires { ⌜ n < most ⌝ }\n", "")], &["contracts: low: moved bump; 0 stayed"]),
+    (&[Text(CODE, "    requires { n < most }\n", "")], &["contracts: low: moved bump; 0 stayed"]),
     (&[Text(CODE, "most: u64", "most: u32")], &["contracts: low: moved bump (signature alone); 0 stayed"]),
     (&[Text(CODE, "n + 1", "1 + n")], &["code: low: moved bump; 1 stayed"]),
     (&[Text(CODE, "    Large,\n", "    Great,\n")], &["code: low: moved Sort; 1 stayed"]),
     (
-        &[File(CODE, "crates/high/src/code.rt"), Text(TWICE, "Rattle·low·specs.specs.declared", "Rattle·high.specs.declared")],
+        &[File(CODE, "crates/high/src/code.rt"), Text(TWICE, "Rattle.low.specs.declared", "Rattle.high.specs.declared")],
         &[
             "contracts: high: 1 from low/src/lib to high/src/code: bump; 0 stayed",
             "code: high: 2 from low/src/lib to high/src/code: Sort, bump; 0 stayed",
@@ -186,8 +186,7 @@ const TRIALS: &[(&[Edit], &[&str])] = &[
 ];
 
 /// A whole report, by hand: the sum in another order, and the laws in another crate.
-const EDITS: [Edit; 3] =
-    [Text(SIZE, "n + one", "one + n"), File(LAWS, "crates/high/specs/laws/SizeLaws.antt"), Text(LAWS, "Rattle·low·specs.", "Rattle·low.")];
+const EDITS: [Edit; 2] = [Text(SIZE, "n + one", "one + n"), File(LAWS, "crates/high/specs/laws/SizeLaws.antt")];
 const SHORT: &str = "definitions to believe: 1 moved, 0 new, 0 gone, 7 stayed
   low: moved size; 5 stayed
   all stayed: high 1, other 1
@@ -204,7 +203,7 @@ code: 0 moved, 0 new, 0 gone, 2 stayed
   all stayed: low 2
 ";
 const NAMES: &str = "definitions to believe: 1 moved, 0 new, 0 gone, 7 stayed
-  low: moved size; 5 stayed: _⊕_, even, infix _⊕_, odd, twice
+  low: moved size; 5 stayed: even, infix ◌⊕◌, odd, twice, ◌⊕◌
   high: 1 stayed: rule
   other: 1 stayed: size
 inner definitions: 0 moved, 0 new, 0 gone, 1 stayed

@@ -1,5 +1,5 @@
 //! Links the engine's static library: the one that `SIF_ENGINE` names (absolute, or relative to the
-//! repository's root), else the one that `rt staticlib engine` makes there.
+//! repository's root), else the one that `install/build engine` makes there.
 
 use std::env;
 use std::fs;
@@ -42,14 +42,13 @@ fn given(path: &Path) -> PathBuf {
 /// The library as the toolchain makes it from the proved crates. It is made again where they change.
 fn built(root: &Path) -> Result<PathBuf, String> {
     println!("cargo:rerun-if-changed={}", root.join("crates").display());
-    let done = Command::new("rt")
-        .args(["staticlib", "engine"])
-        .current_dir(root)
+    let done = Command::new(root.join("install/build"))
+        .arg("engine")
         .output()
-        .map_err(|e| format!("SIF_ENGINE names no library, and rt cannot be run: {e}"))?;
+        .map_err(|e| format!("SIF_ENGINE names no library, and install/build cannot be run: {e}"))?;
     if !done.status.success() {
         let said = [done.stdout, done.stderr].concat();
-        return Err(format!("rt staticlib engine failed:\n{}", String::from_utf8_lossy(&said)));
+        return Err(format!("install/build engine failed:\n{}", String::from_utf8_lossy(&said)));
     }
     Ok(root.join("target/staticlib/libengine.a"))
 }

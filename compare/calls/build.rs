@@ -1,5 +1,5 @@
 //! Links the engine's static library: the file that SIF_ENGINE names, or the one that
-//! `rt staticlib engine` makes.
+//! `compare/library` makes.
 
 use std::env;
 use std::path::Path;
