@@ -10,16 +10,20 @@ const ROWS: &str = "oracle/src/byte_rows.rs";
 const DRIVER: &str = "oracle/src/driver.rs";
 const REFUSE: &str = "oracle/src/refuse.rs";
 
+/// Refusals of calls that are begun and that no caller has yet: the definitions and the code have them, and nothing else.
+const BEGUN: [&str; 1] = ["PROGRAM_FILE_REFUSED"];
+
 /// The names of all of them, which the code and the header have too.
 pub fn checked(texts: &Texts, header: &Numbers, faults: &mut Faults) -> Vec<String> {
     let refusals: Numbers = lines(&texts[REFUSALS]).filter_map(|line| equation(line, "")).collect();
-    let stops: Numbers = lines(&texts[STOPS]).filter_map(|line| equation(line, "stopNumber ")).collect();
+    let stops: Numbers = lines(&texts[STOPS]).filter_map(|line| equation(line, "stop_number ")).collect();
     let details: Numbers = lines(&texts[STOPS]).filter_map(counted).collect();
     let mut hold = |place: &str, right: &Numbers, there: Numbers| held(place, right, &there, faults);
     let known =
         |right: &Numbers| header.iter().filter(|(name, _)| right.contains_key(*name)).map(|(n, v)| (n.clone(), *v)).collect();
 
     hold("crates/lent/src/lib.rt", &refusals, constants(&texts["crates/lent/src/lib.rt"], "u64"));
+    let refusals: Numbers = refusals.iter().filter(|(name, _)| !BEGUN.contains(&name.as_str())).map(|(n, v)| (n.clone(), *v)).collect();
     hold("include/sif.h, refusals", &refusals, known(&refusals));
     hold("rust/src/answer.rs, Refusal", &refusals, variants(&texts[DESK], "pub enum Refusal {"));
     hold(REFUSE, &refusals, constants(&texts[REFUSE], "u8"));
@@ -45,7 +49,7 @@ pub fn checked(texts: &Texts, header: &Numbers, faults: &mut Faults) -> Vec<Stri
         &own,
         by_original(&texts[DRIVER], |stop| Some(stop.split_once("&[").map_or(0, |two| listed(two.1)))),
     );
-    refusals.keys().chain(stops.keys()).cloned().collect()
+    refusals.keys().chain(stops.keys()).cloned().chain(BEGUN.map(str::to_string)).collect()
 }
 
 /// What lacks, what has another number, and what is no more than there.
@@ -65,7 +69,7 @@ fn lines(text: &str) -> impl Iterator<Item = &str> {
     text.lines()
 }
 
-/// `badName = 3`, `stopNumber (Name x) = 3`.
+/// `bad_name = 3`, `stop_number (Name x) = 3`.
 fn equation(line: &str, function: &str) -> Option<(String, u64)> {
     let (left, right) = line.strip_prefix(function)?.split_once(" = ")?;
     Some((upper(word(left.trim_start_matches('('))), number(right)?.0))

@@ -3,17 +3,17 @@ use crate::{Faults, Texts};
 
 /// A file, a text in it and one to put in its place, and how the fault must begin.
 const WRONG: [(&str, &str, &str, &str); 48] = [
-    ("crates/lent/specs/Refusals.antt", "fileCounts = 2", "fileCounts = 11", "crates/lent/src/lib.rt: FILE_COUNTS is 2"),
+    ("crates/lent/specs/Refusals.antt", "file_counts = 2", "file_counts = 11", "crates/lent/src/lib.rt: FILE_COUNTS is 2"),
     (
         "crates/lent/specs/Refusals.antt",
-        "stateRefused = 10",
-        "badState = 10",
+        "state_refused = 10",
+        "bad_state = 10",
         "crates/lent/src/lib.rt: STATE_REFUSED is not among",
     ),
     (
         "crates/vm/specs/RuntimeErr.antt",
-        "stopNumber EmptyRegister = 32",
-        "stopNumber EmptyRegister = 37",
+        "stop_number EmptyRegister = 32",
+        "stop_number EmptyRegister = 37",
         "include/sif.h, stops: EMPTY_REGISTER is 32",
     ),
     (
@@ -91,11 +91,11 @@ const WRONG: [(&str, &str, &str, &str); 48] = [
         "oracle/src/driver.rs, details: NOT_AN_ARRAY is 0",
     ),
     ("oracle/src/refuse.rs", "FILE_TEXTS: u8 = 3;", "FILE_TEXTS: u8 = 4;", "oracle/src/refuse.rs: FILE_TEXTS is 4"),
-    ("crates/tables/specs/ProgramBytes.antt", "programSize = 40960", "programSize = 40961", "PROGRAM_SIZE: 40960 in the code"),
+    ("crates/tables/specs/ProgramBytes.antt", "program_size = 40960", "program_size = 40961", "PROGRAM_SIZE: 40960 in the code"),
     (
         "crates/tables/specs/ProgramBytes.antt",
-        "let s = beValue (part b 34946 2) in",
-        "let s = beValue (part b 34944 2) in",
+        "let s = be_value (part b 34946 2) in",
+        "let s = be_value (part b 34944 2) in",
         "PROGRAM_START: 34946 in the code",
     ),
     ("crates/sifv/src/lib.rt", "VALUE_KEYS: usize = 232;", "VALUE_KEYS: usize = 231;", "VALUE_KEYS: 231 in the code"),

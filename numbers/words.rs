@@ -49,7 +49,7 @@ pub fn constant(line: &str) -> Option<(String, &str, u64)> {
     (end.trim() == ";").then(|| (name.to_string(), kind, number))
 }
 
-/// `programSize` and `ProgramSize` as `PROGRAM_SIZE`.
+/// `program_size` and `ProgramSize` as `PROGRAM_SIZE`.
 pub fn upper(name: &str) -> String {
     let mut out = String::new();
     for letter in name.chars() {

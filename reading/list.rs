@@ -120,7 +120,7 @@ impl Claims {
 /// Files of definitions and laws that do not stand where they belong, and laws among definitions.
 fn misplaced(library: &Library, believed: &BTreeSet<String>, inner: &BTreeSet<String>) -> Vec<String> {
     let mut faults = Vec::new();
-    for file in library.all() {
+    for file in library.all().into_iter().filter(|file| !crate::begun(file)) {
         let (definitions, laws) = library.counts(&file);
         if definitions + laws == 0 {
             continue;
