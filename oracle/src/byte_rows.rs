@@ -93,7 +93,7 @@ impl<'t> Words<'t> {
                 let count = self.number()? as usize;
                 vec![u8::try_from(self.number()?).map_err(|_| "no byte")?; count]
             }
-            "beBytes" => {
+            "be_bytes" => {
                 let width = self.number()? as usize;
                 big_endian(width, self.next()?)?
             }
@@ -265,7 +265,8 @@ pub fn programs_of(table: &str) -> Result<usize, String> {
         }
         let text = expected.strip_prefix("( some ( record { code =");
         let text = text.and_then(|text| text.strip_suffix("} ) )"));
-        let (code, start) = text.and_then(|t| t.split_once("; codeStart =")).ok_or("no program")?;
+        let (code, start) =
+            text.and_then(|t| t.split_once("; code_start =")).ok_or("no program")?;
         let ops = code.split("instr ").skip(1).map(instr_text).collect();
         Ok(found == Some((ops, start.trim().parse().map_err(|_| "no start")?)))
     })?;

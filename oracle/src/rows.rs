@@ -159,7 +159,7 @@ fn lowerings_of(table: &str) -> Result<usize, String> {
         let (file, behind) = file_row(line)?;
         let tree = lines.next().ok_or("a row breaks off")?;
         if !behind.is_empty()
-            || !["(script ", "(times ", "noStmts"].iter().any(|w| tree.starts_with(w))
+            || !["(script ", "(times ", "no_stmts"].iter().any(|w| tree.starts_with(w))
         {
             return Err(format!("a row cannot be read: {line}"));
         }
@@ -227,7 +227,7 @@ fn ops_until<'l>(
 
 /// Code start and steps of a program row's first line.
 fn head(line: &str) -> Option<(u64, u64)> {
-    let words: Vec<&str> = line.strip_prefix("programRow ")?.split_whitespace().collect();
+    let words: Vec<&str> = line.strip_prefix("program_row ")?.split_whitespace().collect();
     match words.as_slice() {
         [start, steps, "("] => Some((start.parse().ok()?, steps.parse().ok()?)),
         _ => None,
@@ -247,7 +247,7 @@ fn programs_of(table: &str) -> Result<usize, String> {
         }
         count += 1;
     }
-    all_read(table, "programRow", count)
+    all_read(table, "program_row", count)
 }
 
 /// An instruction as the listing writes it: label, operation, operands.

@@ -86,7 +86,9 @@ fn code(kind: &str, given: &[u8]) -> Result<Option<Code>, String> {
     }
     match lower_file(given) {
         Ok((_, lowered)) => Ok(Some(Code::of_lowered(lowered))),
-        Err(NUMBER_NOT_FINITE) => Err(String::from("a tree with an infinity or a NaN as a literal")),
+        Err(NUMBER_NOT_FINITE) => {
+            Err(String::from("a tree with an infinity or a NaN as a literal"))
+        }
         Err(_) => Ok(None),
     }
 }

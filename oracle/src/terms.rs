@@ -224,9 +224,9 @@ impl Term {
 
     fn statements(&self) -> Result<Vec<Node>, String> {
         match self.parts() {
-            ("noStmts", []) => Ok(Vec::new()),
+            ("no_stmts", []) => Ok(Vec::new()),
             ("script", [list]) => list.list()?.into_iter().map(Term::statement).collect(),
-            ("moreStmts", [first, rest]) => {
+            ("more_stmts", [first, rest]) => {
                 Ok([vec![first.statement()?], rest.statements()?].concat())
             }
             _ => self.unknown("statements"),
@@ -297,8 +297,8 @@ impl Term {
 
     fn items(&self) -> Result<Vec<(u8, Node)>, String> {
         match self.parts() {
-            ("noItems", []) => Ok(Vec::new()),
-            ("moreItems", [key, value, rest]) => {
+            ("no_items", []) => Ok(Vec::new()),
+            ("more_items", [key, value, rest]) => {
                 Ok([vec![(key.text()?, value.expression()?)], rest.items()?].concat())
             }
             _ => self.unknown("items"),
@@ -307,8 +307,8 @@ impl Term {
 
     fn expressions(&self) -> Result<Vec<Node>, String> {
         match self.parts() {
-            ("noExprs", []) => Ok(Vec::new()),
-            ("moreExprs", [first, rest]) => {
+            ("no_exprs", []) => Ok(Vec::new()),
+            ("more_exprs", [first, rest]) => {
                 Ok([vec![first.expression()?], rest.expressions()?].concat())
             }
             _ => self.unknown("expressions"),

@@ -67,7 +67,11 @@ fn read_single(text: &str) -> Option<Result<SifVal, u8>> {
     }
     if let Some(number) = text.strip_prefix("Str:") {
         let number: usize = number.parse().ok()?;
-        return Some(if number > 63 { Err(PROGRAM_REFUSED) } else { Ok(SifVal::Str(name_of(number as u8))) });
+        return Some(if number > 63 {
+            Err(PROGRAM_REFUSED)
+        } else {
+            Ok(SifVal::Str(name_of(number as u8)))
+        });
     }
     match text {
         "Bl:0" => Some(Ok(SifVal::Bl(false))),

@@ -51,8 +51,8 @@ fn answer(asked: &Term) -> Result<String, String> {
     };
     match asked.parts() {
         ("bound", [script]) => Ok(bound_of_tree(&plain(script)?).to_string()),
-        ("walkCount", [of]) => Ok(walked(of)?.0.count.to_string()),
-        ("walkNames", [of, name]) => {
+        ("walk_count", [of]) => Ok(walked(of)?.0.count.to_string()),
+        ("walk_names", [of, name]) => {
             let value = walked(of)?.0.name_text(name.number()?);
             Ok(value.unwrap_or_else(|| String::from("none")))
         }
@@ -62,7 +62,7 @@ fn answer(asked: &Term) -> Result<String, String> {
             let bits = u64::from_str_radix(pattern, 16).map_err(|e| e.to_string())?;
             Ok(bits.to_string())
         }
-        ("walkEnd", [of]) => match walked(of)?.1 {
+        ("walk_end", [of]) => match walked(of)?.1 {
             None => Ok(String::from("Done")),
             Some(Cut::Stopped(stop)) => Ok(stop_text(&stop)),
             Some(Cut::Spent) => Err(String::from("a script without end")),
@@ -88,7 +88,7 @@ fn plain(script: &Term) -> Result<Node, String> {
 /// The answer of the last run that was given steps.
 fn in_portions(program: &Term, portions: &[&Term]) -> Result<String, String> {
     let script = match program.parts() {
-        ("programOf", [lowered]) if lowered.head == "lowerTree" && lowered.args.len() == 1 => {
+        ("program_of", [lowered]) if lowered.head == "lower_tree" && lowered.args.len() == 1 => {
             &lowered.args[0]
         }
         _ => return Err(format!("no program: {program:?}")),
