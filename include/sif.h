@@ -9,7 +9,7 @@
  *   if (no == 0) no = sif_run(program, SIF_PROGRAM_SIZE, state, SIF_STATE_SIZE, 5000, report, SIF_REPORT_SIZE);
  *   if (no == 0) no = sif_read_name(state, SIF_STATE_SIZE, text, value, SIF_VALUE_SIZE);
  *
- * To link, with the library that `make install` brings; or in the repository, with the one that `rt staticlib engine` makes. They
+ * To link, with the library that `make install` brings; or in the repository, with the one that `install/build engine` makes. They
  * are the same. It calls no other library, C's neither:
  *
  *   cc -std=c99 -O2 -o page examples/page.c $(pkg-config --cflags --libs sif)
