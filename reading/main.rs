@@ -15,7 +15,7 @@ use std::path::Path;
 
 /// Crates of calls that are begun and that no caller has yet: what they need counts as needed, and where their own files stand is
 /// not looked at.
-pub const BEGUN: [&str; 3] = ["bodies", "file_calls", "program_file"];
+pub const BEGUN: [&str; 2] = ["file_calls", "program_file"];
 
 /// Whether a file is of such a crate.
 pub fn begun(file: &str) -> bool {

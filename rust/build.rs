@@ -41,11 +41,18 @@ fn given(path: &Path) -> PathBuf {
 
 /// The library as the toolchain makes it from the proved crates. It is made again where they change.
 fn built(root: &Path) -> Result<PathBuf, String> {
-    println!("cargo:rerun-if-changed={}", root.join("crates").display());
-    let done = Command::new(root.join("install/build"))
-        .arg("engine")
-        .output()
-        .map_err(|e| format!("SIF_ENGINE names no library, and install/build cannot be run: {e}"))?;
+    println!("cargo:rerun-if-changed={}", root.join("crates.txt").display());
+    // (what the toolchain makes lies beside them, in out/)
+    for entry in fs::read_dir(root.join("crates")).map_err(|e| format!("crates: {e}"))?.flatten() {
+        for part in ["src", "specs", "proofs"].map(|part| entry.path().join(part)) {
+            if part.is_dir() {
+                println!("cargo:rerun-if-changed={}", part.display());
+            }
+        }
+    }
+    let done = Command::new(root.join("install/build")).arg("engine").output().map_err(|e| {
+        format!("SIF_ENGINE names no library, and install/build cannot be run: {e}")
+    })?;
     if !done.status.success() {
         let said = [done.stdout, done.stderr].concat();
         return Err(format!("install/build engine failed:\n{}", String::from_utf8_lossy(&said)));
