@@ -403,7 +403,7 @@ impl Library {
     }
 
     pub fn all(&self) -> Vec<String> {
-        self.files.iter().map(|f| f.path.clone()).filter(|p| p.contains("/specs/")).collect()
+        self.files.iter().map(|f| f.path.clone()).filter(|p| p.contains("/specs/") || p.contains("/proofs/laws/")).collect()
     }
 
     /// How many definitions and how many laws a file has.

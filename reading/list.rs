@@ -132,11 +132,12 @@ fn misplaced(library: &Library, believed: &BTreeSet<String>, inner: &BTreeSet<St
         } else {
             "specs/laws"
         };
-        let inside = file.split_once("/specs/").map_or("", |(_, rest)| rest);
-        let stands = match inside.split_once('/') {
-            None => "specs",
-            Some(("inner", _)) => "specs/inner",
-            Some(_) => "specs/laws",
+        let inside = file.split_once("/specs/").map(|(_, rest)| rest);
+        let stands = match inside.map(|rest| rest.split_once('/')) {
+            Some(None) => "specs",
+            Some(Some(("inner", _))) => "specs/inner",
+            // proofs/laws has laws too
+            _ => "specs/laws",
         };
         if folder != stands {
             faults.push(format!("{file} belongs into {folder}"));

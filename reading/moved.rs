@@ -151,7 +151,7 @@ fn folder(path: &str) -> Class {
     match path.split('/').skip(2).collect::<Vec<_>>()[..] {
         ["specs", "inner", ..] => Class::Inner,
         ["specs", _] => Class::Believed,
-        ["specs", ..] => Class::Law,
+        ["specs", ..] | ["proofs", "laws", ..] => Class::Law,
         _ => Class::Proof,
     }
 }
