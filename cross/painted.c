@@ -308,6 +308,13 @@ static void generated(void) {
     }
 }
 
+/* on wasm32 a call may have all that it needs outside of the painted memory: cross/depths then holds it to a bound of 0 */
+#ifdef __wasm__
+#define LEAST 0
+#else
+#define LEAST (RETURN_ADDRESS + 1)
+#endif
+
 static void said(const char *what, uint32_t n) { say(what), say_number(n); }
 
 int work(void) {
@@ -324,6 +331,6 @@ int work(void) {
     for (int i = 0; i < CALLS; i++) say(names[i]), said(" ", most[i] < painted[i] ? most[i] : 0), say("\n");
     /* files of each kind and of no other, and a depth for each call that the painted bytes can tell */
     int wrong = others != 0 || answered[0] == 0 || answered[4] == 0 || answered[6] == 0 || answered[7] == 0;
-    for (int i = 0; i < CALLS; i++) wrong |= most[i] <= RETURN_ADDRESS || most[i] >= painted[i];
+    for (int i = 0; i < CALLS; i++) wrong |= most[i] < LEAST || most[i] >= painted[i];
     return wrong;
 }
