@@ -1,5 +1,5 @@
 # The engine's library and the listing program: proved, built, installed, released (install/README.md).
-#   make             proves and builds both: about ten minutes the first time
+#   make             proves and builds both: a quarter of an hour the first time
 #   make install     into PREFIX, below DESTDIR where one is given; builds first where nothing is built
 #   make uninstall   takes away what install brought
 #   make release     target/sif-VERSION and target/sif-VERSION.tar.gz
