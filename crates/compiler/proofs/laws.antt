@@ -1,4 +1,3 @@
 -- Laws and lemmas, and definitions that only proofs need. A reader may skip them.
 pub mod Accepted
 pub mod Events
-pub mod ReadWithin

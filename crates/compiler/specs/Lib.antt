@@ -1,3 +1,4 @@
 pub mod Literals
 pub mod Lower
 pub mod Within
+pub mod laws

@@ -1,6 +1,3 @@
 -- Laws and lemmas, and definitions that only proofs need. A reader may skip them.
-pub mod Accepting
-pub mod CallLaws
 pub mod Demand3Proof
 pub mod ListLaws
-pub mod Scripts

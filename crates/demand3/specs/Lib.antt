@@ -1,2 +1,3 @@
 pub mod CallList
 pub mod Demand3
+pub mod laws

@@ -22,7 +22,7 @@ use Rattle.lent.specs.Answered.{over, Answered, answered, RunAnswered}
 use Rattle.boundary.specs.LowerCall.{lower_made, lower_read, lower_call}
 use Rattle.boundary.specs.StartCall.{start_call}
 use Rattle.boundary.specs.RunCall.{ran_out, run_call}
-use Rattle.demand3.proofs.laws.Accepting.{accepts}
+use Rattle.demand3.specs.laws.Accepting.{accepts}
 use Rattle.demand3.proofs.laws.ListLaws.{Holds, holds_over, run_answers}
 use Rattle.text.specs.Put.{Put}
 use Rattle.text.specs.laws.PutLaws.{put_as, put_within}

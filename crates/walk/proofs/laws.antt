@@ -3,9 +3,7 @@ pub mod BoundByNodes
 pub mod BoundSize
 pub mod Bounded
 pub mod LoopIndex
-pub mod Parts
 pub mod ShortArrays
 pub mod Simulation
-pub mod Small
 pub mod Standing
 pub mod Theorems

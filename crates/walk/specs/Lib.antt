@@ -3,3 +3,4 @@ pub mod Bound
 pub mod Runs
 pub mod Statements
 pub mod Cost
+pub mod laws

@@ -12,7 +12,7 @@ use Rattle.ast.specs.Plain.{or_truth, plain_expr, plain_items, plain_rhs, plain_
 use Rattle.ast.specs.Flat.{flat_lit, flat_lits, flat_name, flat_expr, flat_rhs, flat_items, block_node, stmt_count, elif_count, else_count, flat_stmt, flat_stmts, flat_rest, flat, entry_bytes}
 use Rattle.ast.specs.Limits.{depth_leaves, depth_expr, depth_rhs, depth_items, depth_stmt, depth_stmts, depth_rest, depth}
 use Rattle.ast.specs.laws.Complete.{deep_expr, deep_stmt}
-use Rattle.walk.proofs.laws.Parts.{arm_plain}
+use Rattle.walk.specs.laws.Parts.{arm_plain}
 use Rattle.walk.specs.Cost.{cost_expr, cost_assign, cost_items, cost_rhs, cost_own, or_one_cost, cost_stmt, cost_stmts, cost_rest}
 use Rattle.bound.specs.inner.Weights as Rule
 use Rattle.bound.specs.inner.Weights.{stores_one, silent, whole_weight, Forest, forest, cost_of, forest_times, subtree}

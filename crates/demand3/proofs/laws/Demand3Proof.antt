@@ -13,7 +13,7 @@ use Rattle.ast.specs.laws.Reading.{read_ok}
 use Rattle.tables.specs.Tables.{Program}
 use Rattle.tables.specs.ProgramBytes.{program_size, program_in}
 use Rattle.compiler.specs.Lower.{lower, lowered}
-use Rattle.compiler.proofs.laws.ReadWithin.{read_within}
+use Rattle.compiler.specs.laws.ReadWithin.{read_within}
 use Rattle.vm.specs.Machine.{started}
 use Rattle.stored.specs.StateBytes.{state_size}
 use Rattle.vm_laws.specs.laws.Kept.{started_storable}
@@ -24,9 +24,9 @@ use Rattle.walk.proofs.laws.Standing.{stands_started}
 use Rattle.lent.specs.Answered.{over, Answered, answered}
 use Rattle.boundary.specs.LowerCall.{lower_call}
 use Rattle.boundary.specs.StartCall.{start_checks, start_deed, start_call}
-use Rattle.demand3.proofs.laws.CallLaws.{lowers}
-use Rattle.demand3.proofs.laws.Scripts.{script_stands}
-use Rattle.demand3.proofs.laws.Accepting.{Accepts, accepts, start_accepts}
+use Rattle.demand3.specs.laws.CallLaws.{lowers}
+use Rattle.demand3.specs.laws.Scripts.{script_stands}
+use Rattle.demand3.specs.laws.Accepting.{Accepts, accepts, start_accepts}
 use Rattle.demand3.specs.CallList.{Call, call_all, fresh}
 use Rattle.demand3.proofs.laws.ListLaws.{decodes, holds_over, reads, ended, Stands, run_accepted, list_stands}
 use Rattle.demand3.specs.Demand3.{Demand3, Starts}

@@ -25,7 +25,7 @@ use Rattle.lent.specs.Answered.{over, answered}
 use Rattle.lent.specs.Answered.{RunAnswered}
 use Rattle.boundary.specs.RunCall.{run_checks, run_refused, ran_out, run_deed, run_call}
 use Rattle.boundary.specs.ReadCall.{read_call}
-use Rattle.demand3.proofs.laws.CallLaws.{length_over}
+use Rattle.demand3.specs.laws.CallLaws.{length_over}
 use Rattle.demand3.specs.CallList.{Call, Run, ReadName, outcome, steps_told, Ending, ending_in, ending_with, ending_of, Gave, NoEffect, effect, AfterCalls, latest, with_effect, after_call, call_all}
 use Rattle.lent.specs.laws.Guarded.{check_passed, Passed, deed_done, all_passed, refused_same}
 use Rattle.opc.specs.Limits.{OpFits}

@@ -13,7 +13,7 @@ use Rattle.ast.specs.laws.PlainFile.{accepted, entries_slice}
 use Rattle.tables.specs.ProgramBytes.{encode_program}
 use Rattle.tables.specs.laws.ProgramLaws.{program_length}
 use Rattle.compiler.specs.Lower.{lower_tree, refusal, program_of, decide, lower, lowered}
-use Rattle.compiler.proofs.laws.ReadWithin.{read_within}
+use Rattle.compiler.specs.laws.ReadWithin.{read_within}
 use Rattle.compiler.proofs.laws.Accepted.{lowered_within}
 use Rattle.lent.specs.Answered.{over, answered}
 use Rattle.boundary.specs.LowerCall.{lower_made, lower_read, lower_call}

@@ -12,7 +12,7 @@ use Rattle.vm.specs.RuntimeErr.{RuntimeErr}
 use Rattle.vm.specs.Operation.{Got, Ok, Err, Names, empty, put, truth}
 use Rattle.walk.specs.Walk.{Walked, Fine, Halt, counting, ◌>>=◌, steps, gets, makes, walk_expr, walk_assign, walk_items, walk_rhs, walk_own, or_one, choose, pass, passes, sized, walk_for, walk_stmt, walk_stmts, walk_rest}
 use Rattle.walk.specs.Bound.{longest_expr, longest_rhs, longest_stmt, longest, longest_rest}
-use Rattle.walk.proofs.laws.Small.{SmallValue, single, items, entries, unset, Smalls, Good, ok, stop, small_put, small_null, good_binary, good_unary, good_read, good_item, good_items, good_update, good_tabled}
+use Rattle.walk.specs.laws.Small.{SmallValue, single, items, entries, unset, Smalls, Good, ok, stop, small_put, small_null, good_binary, good_unary, good_read, good_item, good_items, good_update, good_tabled}
 use Rattle.walk.specs.Cost.{cost_expr, cost_assign, cost_items, cost_rhs, cost_own, or_one_cost, cost_for, cost_stmt, cost_stmts, cost_rest}
 use Rattle.walk.proofs.laws.Bounded.Positive.{rest_positive}
 use Rattle.numeric.specs.Whole.{whole}

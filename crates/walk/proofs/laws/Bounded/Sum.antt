@@ -9,7 +9,7 @@ use Rattle.ast.specs.Tree.{Items, no_items, more_items, OverName, OverCall}
 use Rattle.ast.specs.Tree.{Stmt, Block, IfStmt, ForStmt, Return, ReturnExpr, ExprStmt, VarDecl, VarInit, FnDecl, Stmts, no_stmts, more_stmts, Rest, Else, Elif}
 use Rattle.ast.specs.Plain.{plain_lit, or_truth, plain_expr, plain_items, plain_rhs, plain_own, plain_stmt, plain, plain_rest}
 use Rattle.compiler.specs.Lower.{Main, Place, Event, Reg, Push, Below, ask_below, push, load, arg_regs, expr_regs, stmt_regs, stmts_regs, else_labels, stmt_labels, stmts_labels, rest_labels, lower_lit, lower_arg, lower_assign, lower_expr, lower_rhs, lower_items, or_nop, lower_arm, lower_for, lower_stmt, lower_stmts, lower_rest, lower_tree}
-use Rattle.walk.proofs.laws.Parts.{arm_plain, operand, nothing_pushed}
+use Rattle.walk.specs.laws.Parts.{arm_plain, operand, nothing_pushed}
 use Rattle.walk.specs.Bound.{total}
 use Rattle.walk.specs.Cost.{cost_expr, cost_assign, cost_items, cost_rhs, cost_own, or_one_cost, cost_stmt, cost_stmts, cost_rest}
 

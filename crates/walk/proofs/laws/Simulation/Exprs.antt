@@ -13,8 +13,8 @@ use Rattle.compiler.specs.Lower.{Place, Event, prev, arg_regs, expr_regs, load, 
 use Rattle.vm.specs.Operation.{Got, Ok, Names, binary, unary, read}
 use Rattle.vm.specs.Machine.{loads, execute}
 use Rattle.walk.specs.Walk.{Walked, gets, walk_expr}
-use Rattle.walk.proofs.laws.Small.{single, Good, ok, good_binary, good_unary, good_read}
-use Rattle.walk.proofs.laws.Parts.{operand}
+use Rattle.walk.specs.laws.Small.{single, Good, ok, good_binary, good_unary, good_read}
+use Rattle.walk.specs.laws.Parts.{operand}
 use Rattle.walk.proofs.laws.Simulation.Logic.{Exact, ExactValue, Regs, keep_trans, mk, At, split, past, Sim, Holds, sim_bind, sim_weaken, sim_load}
 
 -- code from register r on that leaves the value of f in the register before t, the next that is free

@@ -13,7 +13,7 @@ use Rattle.compiler.specs.Lower.{or_nop, inner, lower_stmt, lower_stmts, lower_r
 use Rattle.compiler.proofs.laws.Events as Events
 pub use Rattle.compiler.proofs.laws.Events.{end, took, asked, then}
 use Rattle.compiler.proofs.laws.Events.{Nests, block_emits, stmt_emits, stmts_emits, rest_emits}
-use Rattle.walk.proofs.laws.Parts.{arm_plain}
+use Rattle.walk.specs.laws.Parts.{arm_plain}
 use Rattle.walk.proofs.laws.Bounded.Sum.{Opens, past, at, a_stmt, a_rest, a_script}
 use Rattle.walk.proofs.laws.Simulation.Logic.{At, here, reg, below, more}
 

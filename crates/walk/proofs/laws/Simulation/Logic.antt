@@ -12,8 +12,8 @@ use Rattle.vm.specs.RuntimeErr.{RuntimeErr}
 use Rattle.vm.specs.Operation.{Got, Ok, Err, Slots, Names, put}
 use Rattle.vm.specs.Machine.{Machine, Goes, Stops, loads, stores, execute, perform, step}
 use Rattle.walk.specs.Walk.{Walked, Fine, Halt, counting, ◌>>=◌, gets, makes}
-use Rattle.walk.proofs.laws.Parts.{nothing_pushed}
-use Rattle.walk.proofs.laws.Small.{SmallValue, Smalls, Good, ok}
+use Rattle.walk.specs.laws.Parts.{nothing_pushed}
+use Rattle.walk.specs.laws.Small.{SmallValue, Smalls, Good, ok}
 
 abbrev pub Regs : Type 0
 Regs = Slots Value

@@ -12,7 +12,7 @@ use Rattle.vm.specs.RuntimeErr.{InvalidIncr}
 use Rattle.vm.specs.Operation.{Ok, Names, put, held, array, incr, binary, array_item, full}
 use Rattle.vm.specs.Machine.{Goes, loads, branch, step}
 use Rattle.walk.specs.Walk.{Walked, pass, passes, sized, walk_for}
-use Rattle.walk.proofs.laws.Small.{Small, unset, single, entries, items as arrays, small_put, good_item}
+use Rattle.walk.specs.laws.Small.{Small, unset, single, entries, items as arrays, small_put, good_item}
 use Rattle.walk.proofs.laws.Simulation.Logic.{Exact, Regs, eq_true, eq_false, put_same, put_other, Keep, mk, Run, stay, move, At, here, reg, more, split, Sim, done, halt, Kept, kept_after, sim_after, sim_bind, sim_weaken, sim_load, step_at}
 use Rattle.walk.proofs.laws.Simulation.Stmts.{Does}
 use Rattle.numeric.specs.Whole.{whole}

@@ -15,9 +15,9 @@ use Rattle.vm.specs.Operation.{Names, empty}
 use Rattle.vm.specs.Machine.{Machine, Stops, step, initial}
 use Rattle.walk.specs.Walk.{Walked, Fine, Halt, or_one, walk_stmt, walk_stmts, walk_rest, walk}
 use Rattle.walk.specs.Bound.{longest_stmt, longest, longest_rest}
-use Rattle.walk.proofs.laws.Parts.{arm_plain}
+use Rattle.walk.specs.laws.Parts.{arm_plain}
 use Rattle.walk.proofs.laws.Bounded.{plain_starts, plain_code}
-use Rattle.walk.proofs.laws.Small.{single, unset}
+use Rattle.walk.specs.laws.Small.{single, unset}
 use Rattle.walk.proofs.laws.Simulation.Logic.{Regs, eqb_same, eqb_other, mk, Run, At, here, reg, below, more, Sim, done, halt}
 use Rattle.walk.proofs.laws.Simulation.Labels.{InMain, main, in_inner, Mono, end, took, asked, then, Lays, skip, from, lays_mono, lays_stmt, lays_rest, lays_block}
 use Rattle.walk.proofs.laws.Simulation.Exprs.{gives_expr}

@@ -12,7 +12,7 @@ use Rattle.compiler.specs.Lower.{Place, Event, Push, prev, else_labels, stmts_la
 use Rattle.vm.specs.Operation.{Got, Ok, Err, Names, truth}
 use Rattle.vm.specs.Machine.{jump, branch, step}
 use Rattle.walk.specs.Walk.{Walked, ◌>>=◌, steps, or_one, choose}
-use Rattle.walk.proofs.laws.Small.{ok}
+use Rattle.walk.specs.laws.Small.{ok}
 use Rattle.walk.proofs.laws.Simulation.Logic.{Exact, Regs, mk, Run, stay, move, At, here, more, split, Sim, done, halt, Kept, kept_after, sim_after, sim_bind, sim_weaken, step_at}
 use Rattle.walk.proofs.laws.Simulation.Labels.{InMain, Mono, last_le, mono_stmts, Lays, at_head}
 use Rattle.walk.proofs.laws.Simulation.Exprs.{Gives}

@@ -15,7 +15,7 @@ use Rattle.vm.specs.Operation.{Got, Ok, Names, put, or_null, array_item, update,
 use Rattle.vm.specs.Machine.{stores, execute}
 use Rattle.walk.specs.Walk.{Walked, ◌>>=◌, steps, makes, walk_items, walk_rhs, walk_own}
 use Rattle.walk.specs.Bound.{longest_expr, longest_rhs}
-use Rattle.walk.proofs.laws.Small.{single, items, entries, small_put, small_null, Good, ok, good_item, good_update, good_tabled}
+use Rattle.walk.specs.laws.Small.{single, items, entries, small_put, small_null, Good, ok, good_item, good_update, good_tabled}
 use Rattle.walk.proofs.laws.Simulation.Logic.{Exact, ExactValue, Regs, keep_trans, mk, stay, At, here, split, past, Sim, done, Kept, kept_after, sim_bind, sim_weaken, sim_load, sim_store}
 use Rattle.walk.proofs.laws.Simulation.Exprs.{Gives, gives_expr}
 

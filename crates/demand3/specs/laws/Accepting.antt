@@ -19,8 +19,8 @@ use Rattle.stored.specs.StateBytes.{state_size, encode_state}
 use Rattle.lent.specs.Answered.{over, Answered, answered, size_check}
 use Rattle.boundary.specs.LowerCall.{lower_made, lower_read, lower_call}
 use Rattle.boundary.specs.StartCall.{start_call}
-use Rattle.demand3.proofs.laws.CallLaws.{length_over, lowers, lowers_back, lowers_starts}
-use Rattle.compiler.proofs.laws.ReadWithin.{read_within}
+use Rattle.demand3.specs.laws.CallLaws.{length_over, lowers, lowers_back, lowers_starts}
+use Rattle.compiler.specs.laws.ReadWithin.{read_within}
 use Rattle.opc.specs.Limits.{OpFits}
 use Rattle.tables.specs.Limits.{program_ok}
 

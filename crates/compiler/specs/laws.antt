@@ -1,0 +1,2 @@
+-- Laws and lemmas, and definitions that only proofs need. A reader may skip them.
+pub mod ReadWithin

@@ -1,0 +1,4 @@
+-- Laws and lemmas, and definitions that only proofs need. A reader may skip them.
+pub mod Accepting
+pub mod CallLaws
+pub mod Scripts

@@ -1,0 +1,3 @@
+-- Laws and lemmas, and definitions that only proofs need. A reader may skip them.
+pub mod Parts
+pub mod Small
