@@ -55,6 +55,25 @@ def args_of(text):
     return out
 
 
+def cut(uses, body):
+    """The imports that a text needs."""
+    toks = set(TOKEN.findall(re.sub(r"--.*", "", body)))
+    out = []
+    for u in uses:
+        m = re.match(r"use ([^\s{]+)\.\{(.*)\}$", u, re.S)
+        if not m:
+            out.append(u)
+            continue
+        needed = []
+        for x in re.split(r",\s*", m[2].strip().rstrip(",")):
+            w = x.strip().split(" as ")[-1]
+            if w.replace("◌", "") in body if "◌" in w else w in toks or w in body:
+                needed.append(x.strip())
+        if needed:
+            out.append(f"use {m[1]}.{{{', '.join(needed)}}}")
+    return out
+
+
 MUTS = {}
 
 
@@ -426,28 +445,6 @@ def turn(crate, folder, names, path):
             continue
         keep.append(u)
 
-    def cut(us, body):
-        toks = set(TOKEN.findall(re.sub(r"--.*", "", body)))
-        ops = {c for w in toks for c in [w]}
-        out = []
-        for u in us:
-            m = re.match(r"use ([^\s{]+)\.\{(.*)\}$", u, re.S)
-            if not m:
-                out.append(u)
-                continue
-            ns = []
-            for x in re.split(r",\s*", m[2].strip().rstrip(",")):
-                x = x.strip()
-                w = x.split(" as ")[-1]
-                if "◌" in w:
-                    if any(tok == w.replace("◌", "") for tok in ops) or w.replace("◌", "") in body:
-                        ns.append(x)
-                elif w in toks or w in body:
-                    ns.append(x)
-            if ns:
-                out.append(f"use {m[1]}.{{{', '.join(ns)}}}")
-        return out
-
     mod = f"Rattle.{crate}.{path}"
     inv_text = "\n".join(inv)
     helper_text = "\n".join(helpers)
@@ -621,23 +618,6 @@ def turn_cycle(crate, folder, names, path):
     keep = [u for u in uses if not re.search(r"\.(Reads|Kinds|Lts[\w-]*) as |borrow\.Fn\.|\{statement\}|\{close\}|borrow\.Author\.Needs", u)]
     mod = f"Rattle.{crate}.{path}"
     htext = [l for x in hs for l in hs[x]]
-
-    def cut(us, body):
-        toks = set(TOKEN.findall(re.sub(r"--.*", "", body)))
-        out = []
-        for u in us:
-            m = re.match(r"use ([^\s{]+)\.\{(.*)\}$", u, re.S)
-            if not m:
-                out.append(u)
-                continue
-            ns = []
-            for x in re.split(r",\s*", m[2].strip().rstrip(",")):
-                w = x.strip().split(" as ")[-1]
-                if ("◌" in w and w.replace("◌", "") in body) or w in toks:
-                    ns.append(x.strip())
-            if ns:
-                out.append(f"use {m[1]}.{{{', '.join(ns)}}}")
-        return out
 
     full = "\n".join(inv)
     open(os.path.join(folder, "Invariants.antt"), "w", encoding="utf-8").write("\n".join(comments + cut(keep, full) + [f"use {mod}.Given as goal"]) + "\n\n" + full.rstrip("\n") + "\n")
