@@ -7,11 +7,17 @@ use std::collections::{BTreeMap, BTreeSet};
 use std::fs;
 use std::path::Path;
 
-/// The language's own functions that may stand on the way: a number's bits, and a number cut to a whole one.
-const OWN: [&str; 3] = ["f64::to_bits", "f64::from_bits", "std::num::truncating_f64_to_u64"];
+/// The language's own functions that may stand on the way: a number's bits, a yes/no as a number, and a number cut to a whole one.
+const OWN: [&str; 4] = ["f64::to_bits", "f64::from_bits", "u64::from", "std::num::truncating_f64_to_u64"];
 
-/// Methods that may: a buffer's length.
-const METHODS: [&str; 1] = ["len"];
+/// Methods that may: a buffer's length; the smaller of two; a range the other way, or by steps, which the check of the compiled code looks at.
+const METHODS: [&str; 4] = ["len", "min", "rev", "step_by"];
+
+/// The values of `Option` and `Result`.
+const ANSWERS: [&str; 3] = ["Some", "Ok", "Err"];
+
+/// What may be derived: it adds no code that multiplies.
+const DERIVED: [&str; 5] = ["Clone", "Copy", "Debug", "PartialEq", "Eq"];
 
 struct Function {
     module: String,
@@ -55,7 +61,8 @@ impl Sources {
             if let Some(edit) = edit.filter(|edit| edit.name == module) {
                 text = text.replace(edit.old, edit.new);
             }
-            if METHODS.iter().any(|name| text.contains(&format!("fn {name}("))) {
+            let named = |name: &str| ["(", "<"].iter().any(|sign| text.contains(&format!("fn {name}{sign}")));
+            if METHODS.iter().any(|name| named(name)) {
                 return Err(format!("{}: a function is named as a buffer's method is", path.display()));
             }
             let all = words(&text).is_some_and(|words| sources.file(&module, &words).is_some());
@@ -82,7 +89,15 @@ impl Sources {
         while at < words.len() {
             let name = format!("{module}::{}", words.get(at + 1)?);
             at = match words[at].as_str() {
+                "ghost" if words[at + 1] != "use" => next(words, at, &[";"]) + 1,
                 "pub" | "ghost" => at + 1,
+                // methods, and what a byte is turned into; other traits' methods may be called without a name
+                "impl" if words.get(at + 2)? == "{" || words.get(at + 1..at + 5)? == ["From", "<", "u8", ">"] => {
+                    let open = next(words, at, &["{"]);
+                    let end = behind(words, open);
+                    self.file(&format!("{module}::{}", words.get(open - 1)?), words.get(open + 1..end - 1)?)?;
+                    end
+                }
                 "#" => attribute(words, at)?,
                 "use" | "mod" => next(words, at, &[";"]) + 1,
                 "struct" | "enum" => self.declared(words, at)?,
@@ -97,7 +112,8 @@ impl Sources {
                     let body = body(words, head);
                     let end = behind(words, body);
                     let cut = |from: usize, to: usize| words.get(from..to).map(<[String]>::to_vec);
-                    let function = Function { module: module.to_string(), head: cut(at, head)?, body: cut(body, end)? };
+                    let file = module.split("::").filter(|part| part.starts_with(char::is_lowercase)).collect::<Vec<_>>().join("::");
+                    let function = Function { module: file, head: cut(at, head)?, body: cut(body, end)? };
                     self.functions.insert(name, function).is_none().then_some(end)?
                 }
                 _ => return None,
@@ -162,7 +178,7 @@ impl Sources {
     /// Whether a path is a value of an enum, or one of the language's own functions.
     fn own(&self, path: &str) -> bool {
         let parts: Vec<&str> = path.split("::").collect();
-        OWN.contains(&path) || (parts.len() > 1 && self.variants.contains(&parts[parts.len() - 2..].join("::")))
+        OWN.contains(&path) || ANSWERS.contains(&path) || (parts.len() > 1 && self.variants.contains(&parts[parts.len() - 2..].join("::")))
     }
 
     /// The functions that one reaches, less those of a list; and the faults on the way.
@@ -244,7 +260,10 @@ fn attribute(words: &[String], at: usize) -> Option<usize> {
     let open = at + 1 + usize::from(words.get(at + 1)? == "!");
     let plain = match words.get(open + 1)?.as_str() {
         "tactic" | "cycle" => true,
-        "derive" => words.get(open + 2..open + 7)? == ["(", "Clone", ",", "Copy", ")"],
+        "derive" => {
+            let mut named = words.get(open + 3..next(words, open + 3, &[")"]))?.iter().filter(|word| *word != ",");
+            named.all(|name| DERIVED.contains(&name.as_str()))
+        }
         _ => false,
     };
     let end = next(words, open + 1, &["]"]);

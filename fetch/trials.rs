@@ -3,7 +3,7 @@ use crate::source::Edit;
 use crate::told;
 
 /// An edit, and how a fault must begin: with the function, or with one that is no longer found, since its file is not read.
-const WRONG: [(Edit, &str); 29] = [
+const WRONG: [(Edit, &str); 31] = [
     (edit("opc", "    RECORD_SIZE * index\n", "    24 * index\n"), "opc::place"),
     (edit("opc", "    RECORD_SIZE * index\n", "    3 * 8 * index\n"), "opc::place"),
     (edit("opc", "    RECORD_SIZE * index\n", "    (16 + 8) * index\n"), "opc::place"),
@@ -29,13 +29,37 @@ const WRONG: [(Edit, &str); 29] = [
     (edit("execute", "    r * sifv::VALUE_SIZE\n", "    let e = b'}';\n    r * 257\n"), UNREAD),
     (edit("numeric", "const SIGN: u64 = 0x8000_0000_0000_0000;", "const SIGN: u64 = 16 + 1;"), "numeric::canonical"),
     (edit("execute", "#[derive(Clone, Copy)]\n", "#[derive(Clone, Copy, Scaled)]\n"), UNREAD),
-    (edit("execute", "// ---- places\n", "impl Loc {\n    fn far(r: usize) -> usize {\n        r * 257\n    }\n}\n"), UNREAD),
+    (
+        edit(
+            "execute",
+            "    r * sifv::VALUE_SIZE\n}\n",
+            "    Loc::far(r)\n}\nimpl Loc {\n    fn far(r: usize) -> usize {\n        r * 257\n    }\n}\n",
+        ),
+        "execute::Loc::far",
+    ),
+    // a method that is called without its name, one with a buffer's method's
+    (
+        edit(
+            "execute",
+            "    r * sifv::VALUE_SIZE\n}\n",
+            "    r * sifv::VALUE_SIZE\n}\nimpl PartialEq for Loc {\n    fn eq(&self, other: &Loc) -> bool {\n        self.pos * 257 == other.pos\n    }\n}\n",
+        ),
+        UNREAD,
+    ),
+    (
+        edit(
+            "execute",
+            "    r * sifv::VALUE_SIZE\n}\n",
+            "    r * sifv::VALUE_SIZE\n}\nimpl Loc {\n    fn min<const N: usize>(self, r: usize) -> usize {\n        r * 257\n    }\n}\n",
+        ),
+        "./crates/execute",
+    ),
     (edit("execute", "    r * sifv::VALUE_SIZE\n", "    Loc::far(r)\n"), "execute::reg"),
     (
         edit(
             "execute",
-            "        Op::Bad => Step::Goes(loc),\n    }\n}\n",
-            "        Op::Bad => Step::Goes(loc),\n    }\n}\nimpl Loc {}\n",
+            "        Op::Bad => Ok(loc),\n    }\n}\n",
+            "        Op::Bad => Ok(loc),\n    }\n}\ntrait Far {}\n",
         ),
         "execute::execute",
     ),

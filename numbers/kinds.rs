@@ -5,6 +5,7 @@ use crate::{Faults, Numbers, Texts, FORMATS};
 
 const REFUSALS: &str = "crates/lent/specs/Refusals.antt";
 const STOPS: &str = "crates/vm/specs/RuntimeErr.antt";
+const CODE: &str = "crates/lent/src/refusal.rt";
 const DESK: &str = "rust/src/answer.rs";
 const ROWS: &str = "oracle/src/byte_rows.rs";
 const DRIVER: &str = "oracle/src/driver.rs";
@@ -22,7 +23,8 @@ pub fn checked(texts: &Texts, header: &Numbers, faults: &mut Faults) -> Vec<Stri
     let known =
         |right: &Numbers| header.iter().filter(|(name, _)| right.contains_key(*name)).map(|(n, v)| (n.clone(), *v)).collect();
 
-    hold("crates/lent/src/lib.rt", &refusals, constants(&texts["crates/lent/src/lib.rt"], "u64"));
+    hold("crates/lent/src/lib.rt", &Numbers::new(), constants(&texts["crates/lent/src/lib.rt"], "u64"));
+    hold("crates/lent/src/refusal.rt, Refusal", &refusals, variants(&texts[CODE], "pub enum Refusal {"));
     let refusals: Numbers = refusals.iter().filter(|(name, _)| !BEGUN.contains(&name.as_str())).map(|(n, v)| (n.clone(), *v)).collect();
     hold("include/sif.h, refusals", &refusals, known(&refusals));
     hold("rust/src/answer.rs, Refusal", &refusals, variants(&texts[DESK], "pub enum Refusal {"));

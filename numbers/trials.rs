@@ -3,12 +3,12 @@ use crate::{Faults, Texts};
 
 /// A file, a text in it and one to put in its place, and how the fault must begin.
 const WRONG: [(&str, &str, &str, &str); 48] = [
-    ("crates/lent/specs/Refusals.antt", "file_counts = 2", "file_counts = 11", "crates/lent/src/lib.rt: FILE_COUNTS is 2"),
+    ("crates/lent/specs/Refusals.antt", "file_counts = 2", "file_counts = 11", "crates/lent/src/refusal.rt, Refusal: FILE_COUNTS is 2"),
     (
         "crates/lent/specs/Refusals.antt",
         "state_refused = 10",
         "bad_state = 10",
-        "crates/lent/src/lib.rt: STATE_REFUSED is not among",
+        "crates/lent/src/refusal.rt, Refusal: STATE_REFUSED is not among",
     ),
     (
         "crates/vm/specs/RuntimeErr.antt",
@@ -23,16 +23,16 @@ const WRONG: [(&str, &str, &str, &str); 48] = [
         "rust/src/answer.rs, the details of Stop: REG_NO_CONTENTS is 1",
     ),
     (
-        "crates/lent/src/lib.rt",
-        "STATE_REFUSED: u64 = 10;",
-        "STATE_REFUSED: u64 = 11;",
-        "crates/lent/src/lib.rt: STATE_REFUSED is 11",
+        "crates/lent/src/refusal.rt",
+        "StateRefused = 10,",
+        "StateRefused = 11,",
+        "crates/lent/src/refusal.rt, Refusal: STATE_REFUSED is 11",
     ),
     (
-        "crates/lent/src/lib.rt",
-        "pub const NUMBER_NOT_FINITE: u64 = 39;\n",
+        "crates/lent/src/refusal.rt",
+        "    NumberNotFinite = 39,\n",
         "",
-        "crates/lent/src/lib.rt: NUMBER_NOT_FINITE, 39, is not there",
+        "crates/lent/src/refusal.rt, Refusal: NUMBER_NOT_FINITE, 39, is not there",
     ),
     (
         "crates/vm/src/lib.rt",
@@ -162,9 +162,9 @@ const WRONG: [(&str, &str, &str, &str); 48] = [
     ("crates/execute/src/lib.rt", "    stored::STATE_NAMES + x", "    24576 + x", "crates/execute/src/lib.rt: the literal 24576"),
     (
         "numbers/literals.txt",
-        "crates/program/src/lib.rt 256:",
-        "crates/program/src/lib.rt 256 17:",
-        "numbers/literals.txt: crates/program/src/lib.rt has no literal 17",
+        "crates/records/src/lib.rt 256 ",
+        "crates/records/src/lib.rt 256 17 ",
+        "numbers/literals.txt: crates/records/src/lib.rt has no literal 17",
     ),
 ];
 

@@ -1,113 +1,86 @@
 -- The pass over bytes, step by step: a subtree, subtrees one after the other, Items, a node.
-use mathlib.Core.Path.{◌≡◌, refl, sym, ap, subst, ◌∙◌}
+use mathlib.Core.Path.{◌≡◌, refl, sym, ap, ◌∙◌}
 use mathlib.Core.Bool.{Bool, true, false, cond, not}
 use mathlib.Core.List.{List, [], ◌∷◌}
 use Prim.Native.Nat.{ℕ, zero, suc, ◌+◌, ◌≤◌, ◌<◌, ◌-◌}
 use native.Mathlib.Omega.{arith}
-use lib.ListN.{length, get_or, take, drop, length-drop}
-use lib.Seq.{drop-drop}
+use lib.ListN.{length, get_or, take, drop}
 use Rattle.ast.specs.Node.{k_block, k_if, k_for, k_return, k_expr_stmt, k_var_decl, k_fn_decl, k_table, k_array, k_array_access}
 use Rattle.ast.specs.Node.{k_array_mut, k_call, k_assign, k_binary, k_unary, k_num, k_text, k_name, k_true, k_false, Kind, k_program, k_elif, k_item, k_stmt, k_right, k_expr, Node, number_of, kind_of, body, body_size}
 use Rattle.ast.specs.Structure.{field}
 use Rattle.ast.specs.File.{nodes_from}
 use Rattle.ast.specs.inner.Pass as places
-use Rattle.ast.specs.inner.Pass.{Remaining, wrong, left, kept_if, then, times, stands, plan_of, bit_in, bit_of, key_of, keyed_times, children, is_table, in_limits, pass_over, Fit, Agrees, refuses, takes, shifted, began, unless}
-use Rattle.ast.specs.declared.structure.Checked.{Checked}
-use Rattle.ast.specs.declared.structure.Checked.TheVariants.{Bad}
+use Rattle.ast.specs.inner.Room.{Room, none, one}
+use Rattle.ast.specs.inner.Pass.{Remaining, wrong, left, kept_if, then, times, stands, plan_of, bit_in, bit_of, key_of, keyed_times, children, is_table, in_limits, pass_over, Fit, Fits, nodes_of, Agrees, refuses, leaves}
+use Rattle.ast.specs.declared.structure.Rest.{Rest}
+use Rattle.std.specs.Prelude.{Option, Some, None}
+use Rattle.ast.proofs.Agree.{refused, goes_on}
 use Rattle.ast.specs.declared.structure.Plan.{Plan}
 use Rattle.ast.specs.laws.Kinds.{number_kind}
 use Rattle.ast.proofs.Rooms.{First, size_at}
 use Rattle.ast.specs.inner.Answer.{all_used_up}
-use Rattle.ast.proofs.Keeping.{then_left, then_then}
-use Rattle.ast.proofs.Scan.{drop_all}
-use Rattle.ast.proofs.Agree.{Here, refused, fit_rest, first_here}
-use lib.Arith.{lt_of_le-ne}
 use lib.Dec.{eqb}
-use borrow.Author.Tests.{eqb-true, eqb-false}
+use borrow.Author.Tests.{ne_eqb}
 
--- ---- a subtree
+pub stopped : {w : Remaining} {p : Rest} {q : Option (Unit {0})} → w ≡ wrong → q ≡ None → Agrees w p q
+stopped e f = rw (e, f) refuses
 
-pub at_stop : {c b : List ℕ} {x : Remaining} {p : Checked} (f : List Node → Remaining) → Agrees c b x p → p ≡ Bad → Agrees c b (then x f) p
-at_stop f a e = rw (refused a e, e) refuses
+-- ---- subtrees: i of n are gone over, and p is what they leave of the whole w
 
-pub shift_agrees : {c b : List ℕ} (u v : ℕ) {y : Remaining} {r : Checked} → u ≤ length c → v ≤ length b → Agrees (drop u c) (drop v b) y r → Agrees c b y (shifted u v r)
-shift_agrees u v hu hv refuses = refuses
-shift_agrees {c} {b} u v hu hv (takes {u = i} {v = j} hi hj f n) =
-    let dc = length-drop u c in
-    let db = length-drop v b in
-    takes {u = u + i} {v = v + j} (omega arith) (omega arith) (rw (drop-drop i u c, drop-drop j v b) at f) (rw (drop-drop i u c, drop-drop j v b) at n)
+module _ {w : Remaining} (ns : List Node) (go : List Node → Remaining) (n i : ℕ) (e : w ≡ times go (n - i) ns) where
+  next : i < n → w ≡ then (go ns) (λ ms. times go (n - (i + 1)) ms)
+  next h = let z : n - i ≡ suc (n - (i + 1)) = omega arith in e ∙ ap (λ (j : ℕ). times go j ns) z
 
-pub at_go : {c b : List ℕ} {x : Remaining} {u v : ℕ} {r q : Checked} (f : List Node → Remaining) → Here c b x u v
-    → Agrees (drop u c) (drop v b) (f (nodes_from (drop u c) (drop v b))) r → q ≡ shifted u v r → Agrees c b (then x f) q
-at_go {u = u} {v = v} f h a e = rw (h.nodes, e) (shift_agrees u v h.in_c h.in_b a)
+  pub run_stops : {p : Rest} {r q : Option (Unit {0})} → i < n → Agrees (go ns) p r → r ≡ None → q ≡ None → Agrees w p q
+  run_stops h a f = stopped (next h ∙ ap (λ (x : Remaining). then x (λ ms. times go (n - (i + 1)) ms)) (refused a f))
 
--- ---- subtrees: g is left to do of the whole
+  pub run_goes : {p : Rest} {r : Option (Unit {0})} {u : Unit {0}} → i < n → Agrees (go ns) p r → r ≡ Some u → Fits p × (w ≡ times go (n - (i + 1)) (nodes_of p))
+  run_goes h a f = let g = goes_on a f in (g.0, next h ∙ ap (λ (x : Remaining). then x (λ ms. times go (n - (i + 1)) ms)) g.1)
 
-pub record Reached (c b : List ℕ) (q : Checked) (all_used_up : Remaining) (g : List Node → Remaining) : Type 0 where
-  pub so : Remaining
-  pub agrees : Agrees c b so q
-  pub same : all_used_up ≡ then so g
+  pub run_ends : n ≤ i → w ≡ left ns
+  run_ends h = let z : n - i ≡ 0 = omega arith in e ∙ ap (λ (j : ℕ). times go j ns) z
 
-pub start : {c b : List ℕ} {x : Remaining} {p : Checked} (g : List Node → Remaining) → Agrees c b x p → Reached c b p (then x g) g
-start {x = x} g a = record { so = x; agrees = a; same = refl }
+-- ---- Items: k is the key in front
 
-module _ {c b : List ℕ} {q q' : Checked} {all_used_up : Remaining} (go : List Node → Remaining) (m : ℕ) where
-  pub run_turn : 0 < m → Reached c b q all_used_up (λ ns. times go m ns) → ((y : Remaining) → Agrees c b y q → Agrees c b (then y go) q') → Reached c b q' all_used_up (λ ns. times go (m - 1) ns)
-  run_turn h r f =
-      let e : m ≡ suc (m - 1) = omega arith in
-      record {
-        so = then r.so go;
-        agrees = f r.so r.agrees;
-        same = r.same ∙ ap (λ (j : ℕ). then r.so (λ ns. times go j ns)) e ∙ sym (then_then r.so go (λ ns. times go (m - 1) ns));
-      }
+module _ {w : Remaining} {ns : List Node} (go : List Node → Remaining) (keys n i : ℕ) (e : w ≡ keyed_times go keys (n - i) ns) where
+  module _ {k : ℕ} (h : i < n) (ek : k ≡ key_of ns) {p : Rest} {r : Option (Unit {0})} (a : Agrees (go ns) p r) where
+    abbrev behind : List Node → Remaining
+    behind ms = kept_if (not (bit_in keys k)) (keyed_times go (bit_of keys k) (n - (i + 1)) ms)
 
-pub run_end : {c b : List ℕ} {q : Checked} {all_used_up : Remaining} (go : List Node → Remaining) (m : ℕ) → m ≡ 0 → Reached c b q all_used_up (λ ns. times go m ns) → Agrees c b all_used_up q
-run_end {c} {b} {q} go m e r =
-    subst (λ (z : Remaining). Agrees c b z q) (sym (r.same ∙ ap (λ (j : ℕ). then r.so (λ ns. times go j ns)) e ∙ then_left r.so)) r.agrees
+    item_next : w ≡ then (go ns) behind
+    item_next =
+        let z : n - i ≡ suc (n - (i + 1)) = omega arith in
+        e ∙ ap (λ (j : ℕ). keyed_times go keys j ns) z ∙ ap (λ (j : ℕ). then (go ns) (λ ms. kept_if (not (bit_in keys j)) (keyed_times go (bit_of keys j) (n - (i + 1)) ms))) (sym ek)
 
--- ---- Items
+    pub item_stops : {q : Option (Unit {0})} → r ≡ None → q ≡ None → Agrees w p q
+    item_stops f = stopped (item_next ∙ ap (λ (x : Remaining). then x behind) (refused a f))
 
-agrees_unless : {c b : List ℕ} {r : Checked} (t : Bool) (y : Remaining) → Agrees c b y r → Agrees c b (then y (λ ms. kept_if (not t) (left ms))) (unless t r)
-agrees_unless true wrong a = refuses
-agrees_unless true (left ns) a = refuses
-agrees_unless false wrong a = a
-agrees_unless false (left ns) a = a
+    module _ {u : Unit {0}} (f : r ≡ Some u) where
+      item_there : w ≡ behind (nodes_of p)
+      item_there = item_next ∙ ap (λ (x : Remaining). then x behind) (goes_on a f).1
 
-same_key : (t : Bool) (y : Remaining) (g : List Node → Remaining) → then y (λ ms. kept_if t (g ms)) ≡ then (then y (λ ms. kept_if t (left ms))) g
-same_key true wrong g = refl
-same_key false wrong g = refl
-same_key true (left ns) g = refl
-same_key false (left ns) g = refl
+      pub same_key : bit_in keys k ≡ true → Agrees w p None
+      same_key d = stopped (item_there ∙ ap (λ (t : Bool). kept_if (not t) (keyed_times go (bit_of keys k) (n - (i + 1)) (nodes_of p))) d) refl
 
-same_keys : (go : List Node → Remaining) (keys k : ℕ) (y : Remaining) (n : ℕ) → ((ns : List Node) → y ≡ left ns → k ≡ key_of ns)
-    → then y (λ ns. keyed_times go keys (suc n) ns) ≡ then (then (then y go) (λ ms. kept_if (not (bit_in keys k)) (left ms))) (λ ns. keyed_times go (bit_of keys k) n ns)
-same_keys go keys k wrong n f = refl
-same_keys go keys k (left ns) n f = rw (← f ns refl) (same_key (not (bit_in keys k)) (go ns) (λ ms. keyed_times go (bit_of keys k) n ms))
+      pub other_key : bit_in keys k ≡ false → Fits p × (w ≡ keyed_times go (bit_of keys k) (n - (i + 1)) (nodes_of p))
+      other_key d = ((goes_on a f).0, item_there ∙ ap (λ (t : Bool). kept_if (not t) (keyed_times go (bit_of keys k) (n - (i + 1)) (nodes_of p))) d)
 
-module _ {c b : List ℕ} {q r q' : Checked} {all_used_up : Remaining} (go : List Node → Remaining) (keys m k : ℕ) where
-  pub keyed_turn : 0 < m → Reached c b q all_used_up (λ ns. keyed_times go keys m ns) → ((ns : List Node) → Agrees c b (left ns) q → k ≡ key_of ns)
-      → ((y : Remaining) → Agrees c b y q → Agrees c b (then y go) r) → q' ≡ unless (bit_in keys k) r → Reached c b q' all_used_up (λ ns. keyed_times go (bit_of keys k) (m - 1) ns)
-  keyed_turn h s kf f e =
-      let z : m ≡ suc (m - 1) = omega arith in
-      record {
-        so = then (then s.so go) (λ ms. kept_if (not (bit_in keys k)) (left ms));
-        agrees = rw e (agrees_unless (bit_in keys k) (then s.so go) (f s.so s.agrees));
-        same =
-            s.same
-            ∙ ap (λ (j : ℕ). then s.so (λ ns. keyed_times go keys j ns)) z
-            ∙ same_keys go keys k s.so (m - 1) (λ ns w. kf ns (subst (λ (y : Remaining). Agrees c b y q) w s.agrees));
-      }
-
-pub keyed_end : {c b : List ℕ} {q : Checked} {all_used_up : Remaining} (go : List Node → Remaining) (keys m : ℕ) → m ≡ 0 → Reached c b q all_used_up (λ ns. keyed_times go keys m ns) → Agrees c b all_used_up q
-keyed_end {c} {b} {q} go keys m e r =
-    subst (λ (z : Remaining). Agrees c b z q) (sym (r.same ∙ ap (λ (j : ℕ). then r.so (λ ns. keyed_times go keys j ns)) e ∙ then_left r.so)) r.agrees
+  pub items_end : n ≤ i → w ≡ left ns
+  items_end h = let z : n - i ≡ 0 = omega arith in e ∙ ap (λ (j : ℕ). keyed_times go keys j ns) z
 
 -- ---- a node
 
-pub no_node : (d place l : ℕ) (f : Bool) (c b : List ℕ) → length c ≡ 0 → pass_over d place l f (nodes_from c b) ≡ wrong
-no_node zero place l f c b h = refl
-no_node (suc d) place l f [] b h = refl
-no_node (suc d) place l f (x ∷ c) b h = absurd (omega arith)
+pub no_node : (d place l : ℕ) (f : Bool) {c b : List ℕ} → Fit c b → length c < 2 → pass_over d place l f (nodes_from c b) ≡ wrong
+no_node d place l f {c} {b} fit h = rw (none c b fit.room h) (of_none d)
+  where
+    none : (c b : List ℕ) → Room c b → length c < 2 → nodes_from c b ≡ []
+    none [] b r h = refl
+    none (x ∷ []) b r h = refl
+    none (x ∷ (y ∷ c)) b r h = absurd (omega arith)
+
+    of_none : (d : ℕ) → pass_over d place l f [] ≡ wrong
+    of_none zero = refl
+    of_none (suc d) = refl
 
 plan_elifs : (k : Kind) (c : ℕ) (b : List ℕ) (l : ℕ) (f : Bool) → plan_of k c (field (take (body_size (body k)) b) 0) l f ≡ plan_of k c (get_or b 0 0) l f
 plan_elifs k_program c b l f = refl
@@ -145,7 +118,7 @@ no_table (k_right k_array) h = refl
 no_table (k_right k_array_access) h = refl
 no_table (k_expr k) h = refl
 
-module _ {c b : List ℕ} (d place l : ℕ) (f : Bool) (deep : d ≡ 0 → ⊥) (fit : Fit c b) (g : First c b) where
+module _ {c b : List ℕ} (d place l : ℕ) (f : Bool) (deep : d ≡ 0 → ⊥) (g : First c b) where
   abbrev nodes_behind : List Node
   nodes_behind = nodes_from (drop 2 c) (drop (size_at c) b)
 
@@ -166,46 +139,33 @@ module _ {c b : List ℕ} (d place l : ℕ) (f : Bool) (deep : d ≡ 0 → ⊥) 
   pub not_there : stands place (get_or c 0 0) ≡ false → pass_over d place l f (nodes_from c b) ≡ wrong
   not_there e = pass_first ∙ ap (λ (t : Bool). kept_if t (in_limits go (kind_of (get_or c 0 0)) (get_or c 1 0) the_plan nodes_behind)) e
 
-  pub begun : (t : Bool) → Agrees c b (kept_if t (left nodes_behind)) (began t (size_at c))
-  begun true = takes g.two g.fits (fit_rest fit g) refl
-  begun false = refuses
-
-  module _ (there : stands place (get_or c 0 0) ≡ true) {plan : Plan} (ep : plan ≡ the_plan) {s : ℕ} (es : s ≡ size_at c) {p : Checked} (eb : p ≡ began plan.fits s) where
-    pub begins : Agrees c b (kept_if plan.fits (left nodes_behind)) p
-    begins = rw (eb, es) (begun plan.fits)
-
-    pub starts : (x : Remaining) × Agrees c b x p
-    starts = (kept_if plan.fits (left nodes_behind), begins)
-
+  module _ (there : stands place (get_or c 0 0) ≡ true) {plan : Plan} (ep : plan ≡ the_plan) where
     inner : pass_over d place l f (nodes_from c b) ≡ in_limits go (kind_of (get_or c 0 0)) (get_or c 1 0) plan nodes_behind
     inner =
         pass_first
         ∙ ap (λ (t : Bool). kept_if t (in_limits go (kind_of (get_or c 0 0)) (get_or c 1 0) the_plan nodes_behind)) there
         ∙ ap (λ (o : Plan). in_limits go (kind_of (get_or c 0 0)) (get_or c 1 0) o nodes_behind) (sym ep)
 
-    pub table_node : {r : Checked} → get_or c 0 0 ≡ 10 → {n : ℕ} → n ≡ get_or c 1 0
-        → ((x : Remaining) → Agrees c b x p → Agrees c b (then x (λ ns. keyed_times (λ ms. pass_over (d - 1) places.item_bits 0 false ms) 0 n ns)) r) → Agrees c b (pass_over d place l f (nodes_from c b)) r
-    table_node {r} e {n} en h =
-        subst (λ (z : Remaining). Agrees c b z r)
-        (sym (inner ∙ ap (λ (k : ℕ). in_limits go (kind_of k) (get_or c 1 0) plan nodes_behind) e))
-        (subst (λ (j : ℕ). Agrees c b (then (kept_if plan.fits (left nodes_behind)) (λ ns. keyed_times (λ ms. pass_over (d - 1) places.item_bits 0 false ms) 0 j ns)) r) en (h _ begins))
+    pub unfit_node : plan.fits ≡ false → pass_over d place l f (nodes_from c b) ≡ wrong
+    unfit_node e = inner ∙ rw e (by_test (is_table (kind_of (get_or c 0 0))))
+      where
+        by_test : (t : Bool) → cond t (then wrong (λ ms. keyed_times (λ ks. go places.item_bits 0 false ks) 0 (get_or c 1 0) ms)) (children go plan wrong) ≡ wrong
+        by_test true = refl
+        by_test false = refl
 
-    pub other_node : {r : Checked} → (get_or c 0 0 ≡ 10 → ⊥)
-        → ((x : Remaining) → Agrees c b x p → Agrees c b (children (λ q m k ms. pass_over (d - 1) q m k ms) plan x) r) → Agrees c b (pass_over d place l f (nodes_from c b)) r
-    other_node {r} n h =
-        subst (λ (z : Remaining). Agrees c b z r)
-        (sym (inner ∙ ap (λ (t : Bool). cond t
-        (then (kept_if plan.fits (left nodes_behind)) (λ ms. keyed_times (λ ks. go places.item_bits 0 false ks) 0 (get_or c 1 0) ms))
-        (children go plan (kept_if plan.fits (left nodes_behind)))) (no_table (kind_of (get_or c 0 0)) (λ e. n (sym (number_kind (get_or c 0 0) g.least g.known) ∙ e)))))
-        (h _ begins)
+    module _ (fits : plan.fits ≡ true) where
+      pub table_node : get_or c 0 0 ≡ 10 → {n : ℕ} → n ≡ get_or c 1 0 → pass_over d place l f (nodes_from c b) ≡ keyed_times (λ ms. pass_over (d - 1) places.item_bits 0 false ms) 0 n nodes_behind
+      table_node e en = inner ∙ rw (fits, e, en)
+
+      pub other_node : (get_or c 0 0 ≡ 10 → ⊥) → pass_over d place l f (nodes_from c b) ≡ children go plan (left nodes_behind)
+      other_node n =
+          inner ∙ rw (fits, no_table (kind_of (get_or c 0 0)) (λ e. n (sym (number_kind (get_or c 0 0) g.least g.known) ∙ e)))
 
 -- ---- the whole
 
-pub all_nodes : {c b : List ℕ} {x : Remaining} {u v : ℕ} → Here c b x u v → eqb u (length c) ≡ all_used_up x
-all_nodes {c} {b} {x} {u} {v} h = by_test (eqb u (length c)) refl
+pub all_nodes : {c b : List ℕ} → Fit c b → eqb (length c) 0 ≡ all_used_up (left (nodes_from c b))
+all_nodes {c} {b} f = by_room c b f.room
   where
-    by_test : (t : Bool) → eqb u (length c) ≡ t → eqb u (length c) ≡ all_used_up x
-    by_test true e = e ∙ rw (h.nodes, drop_all u c (omega (arith, eqb-true u (length c) e)))
-    by_test false e =
-        let l : u < length c = lt_of_le-ne h.in_c (eqb-false u (length c) e) in
-        e ∙ rw (h.nodes, (first_here h l).nodes)
+    by_room : (c b : List ℕ) → Room c b → eqb (length c) 0 ≡ all_used_up (left (nodes_from c b))
+    by_room c b none = refl
+    by_room c b (one l k h r) = ne_eqb (length c) 0 (λ e. omega arith)

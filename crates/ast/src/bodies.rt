@@ -5,6 +5,9 @@ ghost use Rattle.ast.specs.File.{firsts, field_ok, body_finite, nodes_from};
 ghost use Rattle.ast.specs.inner.Answer.{fault_or};
 ghost use Rattle.ast.specs.inner.Room.{Room};
 ghost use Rattle.lent.specs.Lists.{sum};
+ghost use Rattle.lent.specs.inner.Answers.{answer_number};
+
+use lent::refusal::Refusal;
 
 // Bytes of a node's body, by kind.
 const SIZES: [u8; 24] = [
@@ -26,10 +29,8 @@ pub fn text_bytes(lengths: &[u8]) -> usize
     ensures { (result ≡ sum lengths.now) × (result ≤ 16320) }
 {
     let mut total: usize = 0;
-    let mut i = 0;
-    while i < lengths.len() {
-        total += lengths[i] as usize;
-        i += 1;
+    for &n in lengths {
+        total += n as usize;
     }
     total
 }
@@ -39,10 +40,8 @@ pub fn node_bytes(entries: &[u8]) -> usize
     ensures { (result ≡ sum (map (λ k. body_size (body (kind_of k))) (firsts entries.now))) × (result ≤ 20000) }
 {
     let mut total: usize = 0;
-    let mut i = 0;
-    while i < entries.len() {
+    for i in (0..entries.len()).step_by(crate::NODE_SIZE) {
         total += size(entries[i]);
-        i += crate::NODE_SIZE;
     }
     total
 }
@@ -82,23 +81,21 @@ pub fn finite(kind: u8, bodies: &[u8]) -> bool
     true
 }
 
-// 5 and 39, in node order: the number of the first fault, or 0.
-pub fn first_fault(texts: u64, entries: &[u8], bodies: &[u8]) -> u64
+// 5 and 39, in node order: the first fault, or none.
+pub fn first_fault(texts: u64, entries: &[u8], bodies: &[u8]) -> Result<(), Refusal>
     requires { (length entries.now ≤ 2048) × Room entries.now bodies.now }
-    ensures { result ≡ fault_or texts (nodes_from entries.now bodies.now) 0 }
+    ensures { answer_number result ≡ fault_or texts (nodes_from entries.now bodies.now) 0 }
 {
     let mut at = 0;
-    let mut i = 0;
-    while i < entries.len() {
+    for i in (0..entries.len()).step_by(crate::NODE_SIZE) {
         let kind = entries[i];
         if !field_ok(texts, kind, &bodies[at..]) {
-            return lent::FILE_NUMBERS;
+            return Err(Refusal::FileNumbers);
         }
         if !finite(kind, &bodies[at..]) {
-            return lent::NUMBER_NOT_FINITE;
+            return Err(Refusal::NumberNotFinite);
         }
         at += size(kind);
-        i += crate::NODE_SIZE;
     }
-    0
+    Ok(())
 }

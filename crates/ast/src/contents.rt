@@ -39,10 +39,8 @@ pub fn kinds_ok(entries: &[u8]) -> bool
     ensures { result ≡ all (between 1 23) (firsts entries.now) }
 {
     let mut ok = true;
-    let mut i = 0;
-    while i < entries.len() {
+    for i in (0..entries.len()).step_by(crate::NODE_SIZE) {
         ok = ok & within(1, 23, lent::wide(entries[i]));
-        i += crate::NODE_SIZE;
     }
     ok
 }
@@ -52,10 +50,8 @@ pub fn lengths_ok(lengths: &[u8]) -> bool
     ensures { result ≡ all (λ n. leb n 40) lengths.now }
 {
     let mut ok = true;
-    let mut i = 0;
-    while i < lengths.len() {
-        ok = ok & (lengths[i] <= crate::TEXT_BYTES);
-        i += 1;
+    for &n in lengths {
+        ok = ok & (n <= crate::TEXT_BYTES);
     }
     ok
 }

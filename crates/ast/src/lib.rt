@@ -13,6 +13,9 @@ ghost use Rattle.ast.specs.File.{read_tree};
 ghost use Rattle.ast.specs.inner.Room.{Room};
 ghost use Rattle.ast.specs.inner.Answer.{answer_of, parts_answer, bodies_answer};
 ghost use Rattle.lent.specs.Lists.{sum};
+ghost use Rattle.lent.specs.inner.Answers.{answer_number};
+
+use lent::refusal::Refusal;
 
 // The contents of a tree file: specs/File.antt. The node count is at byte 0; an entry of a node is its kind and its
 // child count.
@@ -84,59 +87,68 @@ pub const DEPTH: u64 = 32;
 pub const LOOPS: u64 = 8;
 
 // The checks of the bodies: texts (3), the nodes' own (5 and 39), structure (4). total is the size of the texts.
-fn read_bodies(count: u64, lengths: &[u8], entries: &[u8], total: usize, bodies: &[u8]) -> u64
+fn read_bodies(
+    count: u64,
+    lengths: &[u8],
+    entries: &[u8],
+    total: usize,
+    bodies: &[u8],
+) -> Result<(), Refusal>
     requires count_bound { (count ≤ 64) × (1 ≤ length lengths.now) × (length lengths.now ≤ 64) × (length entries.now ≤ 2048) }
     requires total_value { (total ≡ sum lengths.now) × (total ≤ length bodies.now) × Room entries.now (drop total bodies.now) }
-    ensures { result ≡ bodies_answer count lengths.now entries.now bodies.now }
+    ensures { answer_number result ≡ bodies_answer count lengths.now entries.now bodies.now }
 {
     if !texts::texts_ok(lengths, total, bodies) {
-        return lent::FILE_TEXTS;
+        return Err(Refusal::FileTexts);
     }
-    let fault = bodies::first_fault(count, entries, &bodies[total..]);
-    if fault != 0 {
-        return fault;
-    }
+    bodies::first_fault(count, entries, &bodies[total..])?;
     if !structure::structure_ok(entries, &bodies[total..]) {
-        return lent::FILE_STRUCTURE;
+        return Err(Refusal::FileStructure);
     }
-    0
+    Ok(())
 }
 
 // The checks after the contents' own: kinds (4), text lengths (3), the bodies' end (1), the bodies.
-fn read_parts(count: u64, lengths: &[u8], entries: &[u8], nodes: u64, bodies: &[u8]) -> u64
+fn read_parts(
+    count: u64,
+    lengths: &[u8],
+    entries: &[u8],
+    nodes: u64,
+    bodies: &[u8],
+) -> Result<(), Refusal>
     requires { (count ≤ 64) × (1 ≤ length lengths.now) × (length lengths.now ≤ 64) × (length entries.now ≤ 2048) × (length entries.now ≡ 2 * nodes) }
-    ensures { result ≡ parts_answer count lengths.now entries.now bodies.now }
+    ensures { answer_number result ≡ parts_answer count lengths.now entries.now bodies.now }
 {
     if !contents::kinds_ok(entries) {
-        return lent::FILE_STRUCTURE;
+        return Err(Refusal::FileStructure);
     }
     if !contents::lengths_ok(lengths) {
-        return lent::FILE_TEXTS;
+        return Err(Refusal::FileTexts);
     }
     let total = bodies::text_bytes(lengths);
     let size = total + bodies::node_bytes(entries);
     if size != bodies.len() {
-        return lent::FILE_CUT;
+        return Err(Refusal::FileCut);
     }
     read_bodies(count, lengths, entries, total, bodies)
 }
 
-// The number of the first refusal in the order of the checks, or 0: the file holds a tree.
-pub fn read(file: &[u8]) -> u64
-    ensures { result ≡ answer_of (read_tree file.now) }
+// The first refusal in the order of the checks, or none: the file holds a tree.
+pub fn read(file: &[u8]) -> Result<(), Refusal>
+    ensures { answer_number result ≡ answer_of (read_tree file.now) }
 {
     if file.len() < FILE_LENGTHS {
-        return lent::FILE_CUT;
+        return Err(Refusal::FileCut);
     }
     if !contents::counts_ok(file) {
-        return lent::FILE_COUNTS;
+        return Err(Refusal::FileCounts);
     }
     let count = contents::text_count(file);
     let nodes = contents::node_count(file);
     let first = FILE_LENGTHS + count as usize;
     let size = first + NODE_SIZE * (nodes as usize);
     if file.len() < size {
-        return lent::FILE_CUT;
+        return Err(Refusal::FileCut);
     }
     read_parts(
         count,

@@ -7,14 +7,14 @@ ghost use Rattle.ast.specs.inner.Under as Rule;
 fn absent(kind: u64) -> bool
     ensures { result ≡ Rule.absent kind }
 {
-    (kind == 6) | ((kind == 9) | (kind == 15))
+    matches!(kind, 6 | 9 | 15)
 }
 
 // "under 8, 12, 16, 17, 18"
 fn holds_truth(under: u64) -> bool
     ensures { result ≡ Rule.holds_truth under }
 {
-    (under == 8) | ((under == 12) | ((under == 16) | ((under == 17) | (under == 18))))
+    matches!(under, 8 | 12 | 16 | 17 | 18)
 }
 
 fn allowed(under: u64, kind: u64) -> bool
@@ -60,14 +60,12 @@ fn scan(entries: &[u8]) -> bool
     let mut ok = true;
     let mut above: u64 = 0;
     let mut left: u64 = 0;
-    let mut i = 0;
-    while i + 1 < entries.len() {
-        let kind = lent::wide(entries[i]);
-        let count = lent::wide(entries[i + 1]);
+    for i in 0..entries.len() / crate::NODE_SIZE {
+        let kind = lent::wide(entries[2 * i]);
+        let count = lent::wide(entries[2 * i + 1]);
         ok = ok & allowed(above, kind);
         left = waits(left, kind, count);
         above = under(left, kind);
-        i += crate::NODE_SIZE;
     }
     ok
 }
@@ -76,7 +74,7 @@ fn scan(entries: &[u8]) -> bool
 pub fn plain(file: &[u8]) -> bool
     ensures { result ≡ Rule.plain_of (read_tree file.now) }
 {
-    if crate::read(file) != 0 {
+    if crate::read(file).is_err() {
         return false;
     }
     let first = crate::FILE_LENGTHS + crate::contents::text_count(file) as usize;

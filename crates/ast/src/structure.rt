@@ -1,18 +1,18 @@
 // 4: the structure. One recursive pass over a subtree checks what may stand where, the child counts,
-// the depth and the loops nested, the items and keys; the remaining depth falls. A node's subtree is
-// the part of the contents from its own entry on, with the bodies from its own body on.
-ghost use Rattle.std.specs.Prelude.{◌≡◌, false, List, ℕ, ◌+◌, ◌-◌, ◌^◌, ◌≤◌, ◌<◌, get_or};
-ghost use Rattle.ast.specs.Node.{Node, kind_of};
+// the depth and the loops nested, the items and keys; the remaining depth falls.
+ghost use Rattle.std.specs.Prelude.{◌≡◌, false, ◌-◌, ◌^◌, ◌≤◌, ◌<◌, get_or};
+ghost use Rattle.ast.specs.Node.{kind_of};
 ghost use Rattle.ast.specs.File.{nodes_from};
 ghost use Rattle.ast.specs.Structure.{parse};
 ghost use Rattle.ast.specs.inner.Answer.{parsed};
-ghost use Rattle.ast.specs.inner.Pass.{Remaining, left, item_bits, then, times, stands, plan_of, plan_one, headed, branching, bit_in, bit_of, key_of, keyed_times, children, pass_over, Fit, Agrees, shifted, began, unless};
+ghost use Rattle.ast.specs.inner.Pass.{left, item_bits, times, stands, plan_of, plan_one, headed, branching, bit_in, bit_of, key_of, keyed_times, children, pass_over, Fit, Fits, nodes_of, Agrees};
 
-// The entries' and the bodies' bytes that a subtree takes, or Bad: refused with 4.
+// The nodes that are left: their entries and their bodies. The check of a subtree leaves those
+// behind it, or answers None: refused with 4.
 #[derive(Clone, Copy)]
-pub enum Checked {
-    Taken(usize, usize),
-    Bad,
+pub struct Rest<'a> {
+    pub entries: &'a [u8],
+    pub bodies: &'a [u8],
 }
 
 // The children of a node: `first` ones at `place`, a Block or none, Elifs, statements.
@@ -61,13 +61,6 @@ fn may_stand(place: u64, kind: u64) -> bool
     (place >> kind) % 2 == 1
 }
 
-// a less b, at least 0.
-fn minus(a: u64, b: u64) -> u64
-    ensures { result ≡ a - b }
-{
-    if b <= a { a - b } else { 0 }
-}
-
 // Children of one kind of place alone.
 fn only_first(fits: bool, place: u64, first: u64, loops: u64, inside: bool) -> Plan
     ensures { result ≡ plan_one fits place first loops inside }
@@ -106,7 +99,7 @@ fn if_plan(count: u64, elifs: u64, loops: u64, inside: bool) -> Plan
     ensures { result ≡ branching count elifs loops inside }
 {
     let least = 2 + elifs;
-    let rest = minus(count, least);
+    let rest = count.saturating_sub(least);
     Plan {
         fits: least <= count,
         place: EXPRESSION,
@@ -126,57 +119,45 @@ fn plan_of(kind: u8, count: u64, elifs: u64, loops: u64, inside: bool) -> Plan
     ensures { result ≡ plan_of (kind_of kind) count elifs loops inside }
 {
     match kind {
-        // Program
-        1 => only_first(true, STATEMENT, count, loops, inside),
-        // Block
-        2 => only_first(true, STATEMENT, count, loops, inside),
-        // If
-        3 => if_plan(count, elifs, loops, inside),
-        // Elif
-        4 => then_block(count == 2, EXPRESSION, 1, loops, inside),
-        // For: at most 8 nested
-        5 => then_block(
+        crate::KIND_PROGRAM => only_first(true, STATEMENT, count, loops, inside),
+        crate::KIND_BLOCK => only_first(true, STATEMENT, count, loops, inside),
+        crate::KIND_IF => if_plan(count, elifs, loops, inside),
+        crate::KIND_ELIF => then_block(count == 2, EXPRESSION, 1, loops, inside),
+        // at most 8 nested
+        crate::KIND_FOR => then_block(
             (count == 2) & (1 <= loops),
             NAME_OR_CALL,
             1,
-            minus(loops, 1),
+            loops.saturating_sub(1),
             inside,
         ),
-        // Return
-        6 => only_first(count <= 1, EXPRESSION, count, loops, inside),
-        // ExprStmt
-        7 => only_first(count == 1, EXPRESSION, 1, loops, inside),
-        // VarDecl
-        8 => only_first(count <= 1, RIGHT_SIDE, count, loops, inside),
-        // FnDecl: none inside another
-        9 => then_block((1 <= count) & !inside, NAME, minus(count, 1), loops, true),
-        // Table: at most 16 Items
-        10 => only_first(count <= TABLE_ITEMS, ITEM, count, loops, inside),
-        // Item
-        11 => only_first(count == 1, EXPRESSION, 1, loops, inside),
-        // Array: at most 24 items
-        12 => only_first(count <= ARRAY_ITEMS, LITERAL, count, loops, inside),
-        // ArrayAccess
-        13 => only_first(count == 1, EXPRESSION, 1, loops, inside),
-        // ArrayMut
-        14 => only_first(count == 2, EXPRESSION, 2, loops, inside),
-        // Call
-        15 => only_first(true, EXPRESSION, count, loops, inside),
-        // Assign
-        16 => only_first(count == 1, RIGHT_SIDE, 1, loops, inside),
-        // Binary
-        17 => only_first(count == 2, EXPRESSION, 2, loops, inside),
-        // Unary
-        18 => only_first(count == 1, EXPRESSION, 1, loops, inside),
-        // Num
-        19 => only_first(count == 0, EXPRESSION, 0, loops, inside),
-        // Text
-        20 => only_first(count == 0, EXPRESSION, 0, loops, inside),
-        // Name
-        21 => only_first(count == 0, EXPRESSION, 0, loops, inside),
-        // True
-        22 => only_first(count == 0, EXPRESSION, 0, loops, inside),
-        // False
+        crate::KIND_RETURN => only_first(count <= 1, EXPRESSION, count, loops, inside),
+        crate::KIND_EXPR_STMT => only_first(count == 1, EXPRESSION, 1, loops, inside),
+        crate::KIND_VAR_DECL => only_first(count <= 1, RIGHT_SIDE, count, loops, inside),
+        // none inside another
+        crate::KIND_FN_DECL => then_block(
+            (1 <= count) & !inside,
+            NAME,
+            count.saturating_sub(1),
+            loops,
+            true,
+        ),
+        // at most 16 Items
+        crate::KIND_TABLE => only_first(count <= TABLE_ITEMS, ITEM, count, loops, inside),
+        crate::KIND_ITEM => only_first(count == 1, EXPRESSION, 1, loops, inside),
+        // at most 24 items
+        crate::KIND_ARRAY => only_first(count <= ARRAY_ITEMS, LITERAL, count, loops, inside),
+        crate::KIND_ARRAY_ACCESS => only_first(count == 1, EXPRESSION, 1, loops, inside),
+        crate::KIND_ARRAY_MUT => only_first(count == 2, EXPRESSION, 2, loops, inside),
+        crate::KIND_CALL => only_first(true, EXPRESSION, count, loops, inside),
+        crate::KIND_ASSIGN => only_first(count == 1, RIGHT_SIDE, 1, loops, inside),
+        crate::KIND_BINARY => only_first(count == 2, EXPRESSION, 2, loops, inside),
+        crate::KIND_UNARY => only_first(count == 1, EXPRESSION, 1, loops, inside),
+        crate::KIND_NUM => only_first(count == 0, EXPRESSION, 0, loops, inside),
+        crate::KIND_TEXT => only_first(count == 0, EXPRESSION, 0, loops, inside),
+        crate::KIND_NAME => only_first(count == 0, EXPRESSION, 0, loops, inside),
+        crate::KIND_TRUE => only_first(count == 0, EXPRESSION, 0, loops, inside),
+        // KIND_FALSE
         _ => only_first(count == 0, EXPRESSION, 0, loops, inside),
     }
 }
@@ -191,28 +172,14 @@ fn first_byte(bodies: &[u8]) -> u64
     lent::wide(bodies[0])
 }
 
-// A node's own entry and body are taken, if its child count fits.
-fn begin(fits: bool, size: usize) -> Checked
-    ensures { result ≡ began fits size }
-{
-    if fits {
-        return Checked::Taken(crate::NODE_SIZE, size);
-    }
-    Checked::Bad
-}
-
-// What a part takes, counted from the whole's start.
-fn shift(entries: usize, bodies: usize, r: Checked) -> Checked
-    requires { (x y : ℕ) → r ≡ Checked.Taken x y → (entries + x < 2 ^ 64) × (bodies + y < 2 ^ 64) }
-    ensures { result ≡ shifted entries bodies r }
-{
-    let Checked::Taken(x, y) = r else {
-        return r;
-    };
-    Checked::Taken(entries + x, bodies + y)
-}
-
 // The keys of one table are a mark: bit k for each key k before.
+fn has_key(keys: u64, k: u64) -> bool
+    requires { k < 64 }
+    ensures { result ≡ bit_in keys k }
+{
+    (keys >> k) % 2 == 1
+}
+
 fn bit(k: u64) -> u64
     requires { k < 64 }
     ensures { result ≡ 2 ^ k }
@@ -227,153 +194,93 @@ fn with_key(keys: u64, k: u64) -> u64
     keys | bit(k)
 }
 
-fn unless_key(keys: u64, k: u64, r: Checked) -> Checked
-    requires { k < 64 }
-    ensures { result ≡ unless (bit_in keys k) r }
+// The key of the Item in front, if one is there.
+fn first_key(rest: &Rest) -> u64
+    requires { Fits rest.now }
+    ensures { (result < 64) × (result ≡ key_of (nodes_of rest.now)) }
 {
-    if (keys >> k) % 2 == 1 {
-        return Checked::Bad;
-    }
-    r
-}
-
-// The key of the Item at p, if one is there.
-fn key_at(contents: &[u8], bodies: &[u8], p: Checked) -> u64
-    requires { (x : Remaining) × Agrees contents.now bodies.now x p }
-    ensures { (result < 64) × ((ns : List Node) → Agrees contents.now bodies.now (left ns) p → result ≡ key_of ns) }
-{
-    let Checked::Taken(u, v) = p else {
-        return 0;
-    };
-    if contents.len() <= u {
+    let Rest { entries, bodies } = *rest;
+    if entries.len() == 0 {
         return 0;
     }
-    let kind = contents[u];
-    if kind != 11 {
+    let kind = entries[0];
+    if kind != crate::KIND_ITEM {
         return 0;
     }
-    lent::wide(bodies[v])
+    lent::wide(bodies[0])
 }
 
-// The subtree at p: the part of the contents from its own entry on.
-#[cycle(at_items_kids_node_run)]
-fn at(
-    place: u64,
-    contents: &[u8],
-    bodies: &[u8],
-    depth: u64,
-    loops: u64,
-    inside: bool,
-    p: Checked,
-) -> Checked
-    requires { (x : Remaining) × Agrees contents.now bodies.now x p }
-    ensures { (x : Remaining) → Agrees contents.now bodies.now x p → Agrees contents.now bodies.now (then x (λ ns. pass_over depth place loops inside ns)) result }
+// n subtrees.
+#[cycle(subtree)]
+fn run(place: u64, n: u64, rest: &mut Rest, depth: u64, loops: u64, inside: bool) -> Option<()>
+    requires { Fits rest.old }
+    ensures { Agrees (times (λ ms. pass_over depth place loops inside ms) n (nodes_of rest.old)) rest.new result }
 {
-    let Checked::Taken(u, v) = p else {
-        return p;
-    };
-    shift(
-        u,
-        v,
-        node(place, &contents[u..], &bodies[v..], depth, loops, inside),
-    )
-}
-
-// n subtrees from p on.
-#[cycle(at_items_kids_node_run)]
-fn run(
-    place: u64,
-    n: u64,
-    contents: &[u8],
-    bodies: &[u8],
-    depth: u64,
-    loops: u64,
-    inside: bool,
-    p: Checked,
-) -> Checked
-    requires { (x : Remaining) × Agrees contents.now bodies.now x p }
-    ensures { (x : Remaining) → Agrees contents.now bodies.now x p → Agrees contents.now bodies.now (then x (λ ns. times (λ ms. pass_over depth place loops inside ms) n ns)) result }
-{
-    let mut q = p;
-    let mut more = n;
-    while 0 < more {
-        q = at(place, contents, bodies, depth, loops, inside, q);
-        more -= 1;
+    for _ in 0..n {
+        node(place, rest, depth, loops, inside)?;
     }
-    q
+    Some(())
 }
 
-// n Items from p on, no key twice.
-#[cycle(at_items_kids_node_run)]
-fn items(n: u64, contents: &[u8], bodies: &[u8], depth: u64, p: Checked) -> Checked
-    requires { (x : Remaining) × Agrees contents.now bodies.now x p }
-    ensures { (x : Remaining) → Agrees contents.now bodies.now x p → Agrees contents.now bodies.now (then x (λ ns. keyed_times (λ ms. pass_over depth item_bits 0 false ms) 0 n ns)) result }
+// n Items, no key twice.
+#[cycle(subtree)]
+fn items(n: u64, rest: &mut Rest, depth: u64) -> Option<()>
+    requires { Fits rest.old }
+    ensures { Agrees (keyed_times (λ ms. pass_over depth item_bits 0 false ms) 0 n (nodes_of rest.old)) rest.new result }
 {
-    let mut q = p;
     let mut keys: u64 = 0;
-    let mut more = n;
-    while 0 < more {
-        let k = key_at(contents, bodies, q);
-        let r = at(ITEM, contents, bodies, depth, 0, false, q);
-        q = unless_key(keys, k, r);
+    for _ in 0..n {
+        let k = first_key(rest);
+        node(ITEM, rest, depth, 0, false)?;
+        if has_key(keys, k) {
+            return None;
+        }
         keys = with_key(keys, k);
-        more -= 1;
     }
-    q
+    Some(())
 }
 
 // A node's children, one part of the plan after the other.
-#[cycle(at_items_kids_node_run)]
-fn kids(plan: Plan, contents: &[u8], bodies: &[u8], depth: u64, p: Checked) -> Checked
-    requires { (x : Remaining) × Agrees contents.now bodies.now x p }
-    ensures { (x : Remaining) → Agrees contents.now bodies.now x p → Agrees contents.now bodies.now (children (λ q m g ms. pass_over depth q m g ms) plan x) result }
+#[cycle(subtree)]
+fn kids(plan: Plan, rest: &mut Rest, depth: u64) -> Option<()>
+    requires { Fits rest.old }
+    ensures { Agrees (children (λ q m g ms. pass_over depth q m g ms) plan (left (nodes_of rest.old))) rest.new result }
 {
     let loops = plan.loops;
     let inside = plan.inside;
-    let first = run(
-        plan.place, plan.first, contents, bodies, depth, loops, inside, p,
-    );
-    let block = run(
-        BLOCK,
-        plan.blocks,
-        contents,
-        bodies,
-        depth,
-        loops,
-        inside,
-        first,
-    );
-    let elifs = run(
-        ELIF, plan.elifs, contents, bodies, depth, loops, inside, block,
-    );
-    run(
-        STATEMENT, plan.rest, contents, bodies, depth, loops, inside, elifs,
-    )
+    run(plan.place, plan.first, rest, depth, loops, inside)?;
+    run(BLOCK, plan.blocks, rest, depth, loops, inside)?;
+    run(ELIF, plan.elifs, rest, depth, loops, inside)?;
+    run(STATEMENT, plan.rest, rest, depth, loops, inside)
 }
 
-// The node at the front, and its subtree.
-#[cycle(at_items_kids_node_run)]
-fn node(place: u64, contents: &[u8], bodies: &[u8], depth: u64, loops: u64, inside: bool) -> Checked
-    requires { Fit contents.now bodies.now }
-    ensures { Agrees contents.now bodies.now (pass_over depth place loops inside (nodes_from contents.now bodies.now)) result }
+// The node in front, and its subtree.
+#[cycle(subtree)]
+fn node(place: u64, rest: &mut Rest, depth: u64, loops: u64, inside: bool) -> Option<()>
+    requires { Fits rest.old }
+    ensures { Agrees (pass_over depth place loops inside (nodes_of rest.old)) rest.new result }
 {
     if depth == 0 {
-        return Checked::Bad;
+        return None;
     }
-    if contents.len() == 0 {
-        return Checked::Bad;
+    let Rest { entries, bodies } = *rest;
+    let [kind, count, entries @ ..] = entries else {
+        return None;
+    };
+    let count = lent::wide(*count);
+    if !may_stand(place, lent::wide(*kind)) {
+        return None;
     }
-    let kind = contents[0];
-    let count = lent::wide(contents[1]);
-    if !may_stand(place, lent::wide(kind)) {
-        return Checked::Bad;
+    let plan = plan_of(*kind, count, first_byte(bodies), loops, inside);
+    if !plan.fits {
+        return None;
     }
-    let plan = plan_of(kind, count, first_byte(bodies), loops, inside);
-    let p = begin(plan.fits, crate::bodies::size(kind));
-    if kind == 10 {
-        return items(count, contents, bodies, depth - 1, p);
+    let bodies = &bodies[crate::bodies::size(*kind)..];
+    *rest = Rest { entries, bodies };
+    if *kind == crate::KIND_TABLE {
+        return items(count, rest, depth - 1);
     }
-    kids(plan, contents, bodies, depth - 1, p)
+    kids(plan, rest, depth - 1)
 }
 
 // All nodes: Program is node 0, its depth is 1 of 32; the child counts use up the nodes exactly.
@@ -381,9 +288,9 @@ pub fn structure_ok(entries: &[u8], bodies: &[u8]) -> bool
     requires { Fit entries.now bodies.now }
     ensures { result ≡ parsed (parse (nodes_from entries.now bodies.now)) }
 {
-    let Checked::Taken(u, _) = node(PROGRAM, entries, bodies, crate::DEPTH, crate::LOOPS, false)
-    else {
+    let mut rest = Rest { entries, bodies };
+    let Some(()) = node(PROGRAM, &mut rest, crate::DEPTH, crate::LOOPS, false) else {
         return false;
     };
-    u == entries.len()
+    rest.entries.len() == 0
 }

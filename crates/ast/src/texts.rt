@@ -8,10 +8,8 @@ pub fn printable(texts: &[u8]) -> bool
     ensures { result ≡ all (between 32 126) texts.now }
 {
     let mut ok = true;
-    let mut i = 0;
-    while i < texts.len() {
-        ok = ok & crate::contents::within(32, 126, lent::wide(texts[i]));
-        i += 1;
+    for &byte in texts {
+        ok = ok & crate::contents::within(32, 126, lent::wide(byte));
     }
     ok
 }
@@ -19,27 +17,17 @@ pub fn printable(texts: &[u8]) -> bool
 pub fn is_fortmp(text: &[u8]) -> bool
     ensures { result ≡ same_bytes text.now fortmp }
 {
-    if text.len() != 6 {
-        return false;
-    }
-    (text[0] == 102)
-        & (text[1] == 111)
-        & (text[2] == 114)
-        & (text[3] == 116)
-        & (text[4] == 109)
-        & (text[5] == 112)
+    matches!(text, [b'f', b'o', b'r', b't', b'm', b'p'])
 }
 
 // Whether a stands before b by bytes.
 pub fn precedes(a: &[u8], b: &[u8]) -> bool
     ensures { result ≡ precedes a.now b.now }
 {
-    let mut i = 0;
-    while i < a.len() {
+    for (i, &x) in a.iter().enumerate() {
         if b.len() <= i {
             return false;
         }
-        let x = a[i];
         let y = b[i];
         if x < y {
             return true;
@@ -47,9 +35,8 @@ pub fn precedes(a: &[u8], b: &[u8]) -> bool
         if y < x {
             return false;
         }
-        i += 1;
     }
-    i < b.len()
+    a.len() < b.len()
 }
 
 // A later text equal to `fortmp`: none is.
@@ -59,12 +46,10 @@ pub fn none_fortmp(lengths: &[u8], texts: &[u8]) -> bool
 {
     let mut ok = true;
     let mut at = 0;
-    let mut i = 0;
-    while i < lengths.len() {
-        let end = at + lengths[i] as usize;
+    for &n in lengths {
+        let end = at + n as usize;
         ok = ok & !is_fortmp(&texts[at..end]);
         at = end;
-        i += 1;
     }
     ok
 }
@@ -74,19 +59,17 @@ pub fn in_order(lengths: &[u8], texts: &[u8]) -> bool
     requires { (length lengths.now ≤ 64) × (sum lengths.now ≤ length texts.now) }
     ensures { result ≡ ascending (cut lengths.now texts.now) }
 {
-    if lengths.len() == 0 {
+    let [first, later @ ..] = lengths else {
         return true;
-    }
+    };
     let mut ok = true;
     let mut from = 0;
-    let mut at = lengths[0] as usize;
-    let mut i = 1;
-    while i < lengths.len() {
-        let end = at + lengths[i] as usize;
+    let mut at = *first as usize;
+    for &n in later {
+        let end = at + n as usize;
         ok = ok & precedes(&texts[from..at], &texts[at..end]);
         from = at;
         at = end;
-        i += 1;
     }
     ok
 }

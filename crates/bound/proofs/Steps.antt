@@ -84,14 +84,13 @@ whole_low l u k c n = by_test (eqb k 5)
 
 -- ---- subtrees one after the other: r is left of w
 
-pub record Going (es : List ℕ) (w r : Forest) (next cost : ℕ) : Type 0 where
-  pub inside : next ≤ length es
+pub record Going (w r : Forest) (cost : ℕ) : Type 0 where
   pub small : cost < limit
   pub sum : cost_of w % limit ≡ (cost + cost_of r) % limit
   pub ends : behind w ≡ behind r
 
-pub begins : {es : List ℕ} (w : Forest) {at : ℕ} → at ≤ length es → Going es w w at 0
-begins w h = record { inside = h; small = omega arith; sum = ap (λ (x : ℕ). x % limit) (omega arith); ends = refl }
+pub begins : (w : Forest) → Going w w 0
+begins w = record { small = omega arith; sum = ap (λ (x : ℕ). x % limit) (omega arith); ends = refl }
 
 cost_more : (n : ℕ) (x : Forest) → cost_of (more n x) ≡ n + cost_of x
 cost_more n (forest m es) = refl
@@ -103,62 +102,63 @@ sums : (cost a n : ℕ) → (cost + (a + n)) % limit ≡ ((cost + a % limit) % l
 sums cost a n =
     sym (mod-add-mod (cost + a % limit) limit n ∙ ap (λ (x : ℕ). x % limit) (omega arith) ∙ mod-add-mod a limit (cost + n) ∙ ap (λ (x : ℕ). x % limit) (omega arith))
 
-and_then : {es : List ℕ} {w x : Forest} (g : List ℕ → Forest) {next cost : ℕ} {p : Part}
-    → Going es w (then_forest x g) next cost → Counts es x p → Going es w (g (drop p.next es)) p.next ((cost + p.cost) % limit)
-and_then {es} {w} g {cost} {p} h (counts {n = a} {ms} e i d) =
+and_then : {w x : Forest} (g : List ℕ → Forest) {cost : ℕ} {p : Part} → Going w (then_forest x g) cost → Counts x p → Going w (g p.rest.now) ((cost + p.cost) % limit)
+and_then {w} g {cost} {p} h (counts {n = a} e) =
     record {
-      inside = i;
       small = omega arith;
-      sum = rw (e, d) (h.sum ∙ ap (λ (x : ℕ). (cost + x) % limit) (cost_more a (g ms)) ∙ sums cost a (cost_of (g ms)));
-      ends = rw d (h.ends ∙ rest_more a (g ms));
+      sum = rw e (h.sum ∙ ap (λ (x : ℕ). (cost + x) % limit) (cost_more a (g p.rest.now)) ∙ sums cost a (cost_of (g p.rest.now)));
+      ends = h.ends ∙ rest_more a (g p.rest.now);
     }
 
-pub turn : {es : List ℕ} {w : Forest} (f : List ℕ → Forest) (n : ℕ) {next cost : ℕ} {p : Part}
-    → 0 < n → Going es w (forest_times f n (drop next es)) next cost → Counts es (f (drop next es)) p → Going es w (forest_times f (n - 1) (drop p.next es)) p.next ((cost + p.cost) % limit)
-turn f zero z h c = absurd (omega arith)
-turn f (suc n) z h c = let e : suc n - 1 ≡ n = omega arith in rw e (and_then (λ ms. forest_times f n ms) h c)
+-- i of n are gone over
+module _ {w : Forest} (f : List ℕ → Forest) (n i : ℕ) {cost : ℕ} where
+  pub turn : {es : List ℕ} {p : Part} → i < n → Going w (forest_times f (n - i) es) cost → Counts (f es) p → Going w (forest_times f (n - (i + 1)) p.rest.now) ((cost + p.cost) % limit)
+  turn {es} h g c =
+      let e : n - i ≡ suc (n - (i + 1)) = omega arith in
+      and_then (λ ms. forest_times f (n - (i + 1)) ms) (subst (λ (j : ℕ). Going w (forest_times f j es) cost) e g) c
 
-ended : {es : List ℕ} {next cost : ℕ} (w : Forest) → Going es w (forest 0 (drop next es)) next cost → Counts es w (record { next = next; cost = cost })
-ended {cost} (forest a ms) h = counts (sym (h.sum ∙ ap (λ (x : ℕ). x % limit) (omega arith) ∙ mod-eq_of_lt h.small)) h.inside (sym h.ends)
-
-pub finish : {es : List ℕ} {w : Forest} (f : List ℕ → Forest) (n : ℕ) {next cost : ℕ} → n ≤ 0 → Going es w (forest_times f n (drop next es)) next cost → Counts es w (record { next = next; cost = cost })
-finish f zero z h = ended _ h
-finish f (suc n) z h = absurd (omega arith)
+  pub finish : (p : Part) → p.cost ≡ cost → n ≤ i → Going w (forest_times f (n - i) p.rest.now) cost → Counts w p
+  finish p q h g =
+      let e : n - i ≡ 0 = omega arith in
+      ended w (rw q (subst (λ (j : ℕ). Going w (forest_times f j p.rest.now) cost) e g))
+    where
+      ended : (w : Forest) → Going w (forest 0 p.rest.now) p.cost → Counts w p
+      ended (forest a ms) h = rw h.ends (counts (sym (h.sum ∙ ap (λ (x : ℕ). x % limit) (omega arith) ∙ mod-eq_of_lt h.small)))
 
 -- ---- one subtree
 
-pub stops : (es : List ℕ) (d l u at : ℕ) → d ≡ 0 → at ≤ length es → Counts es (subtree d l u (drop at es)) (record { next = at; cost = 0 })
-stops es d l u at e h = rw e (counts refl h refl)
+pub stops : (d l u : ℕ) {p : Part} → d ≡ 0 → p.cost ≡ 0 → Counts (subtree d l u p.rest.now) p
+stops d l u e c = rw e (counts c)
 
-pub short : (es : List ℕ) (d l u at : ℕ) → length es < at + 2 → at ≤ length es → Counts es (subtree d l u (drop at es)) (record { next = at; cost = 0 })
-short es d l u at h i = rw (none d (drop at es) (omega (arith, length-drop at es))) (counts refl i refl)
+pub short : (d l u : ℕ) (p : Part) → length p.rest.now < 2 → p.cost ≡ 0 → Counts (subtree d l u p.rest.now) p
+short d l u p h c = rw (none d p.rest.now h) (counts c)
   where
-    none : (d : ℕ) (ms : List ℕ) → length ms ≤ 1 → subtree d l u ms ≡ forest 0 ms
-    none zero ms g = refl
+    none : (d : ℕ) (es : List ℕ) → length es < 2 → subtree d l u es ≡ forest 0 es
+    none zero es g = refl
     none (suc d) [] g = refl
     none (suc d) (k ∷ []) g = refl
-    none (suc d) (k ∷ (c ∷ ms)) g = absurd (omega arith)
+    none (suc d) (k ∷ (c ∷ es)) g = absurd (omega arith)
 
-with_node : {es : List ℕ} {x : Forest} {p : Part} (l u k c q : ℕ) → q ≡ whole_weight l u k c p.cost % limit → Counts es x p → Counts es (node l u k c x) (record { next = p.next; cost = q })
-with_node l u k c q e (counts {n = a} f i d) = counts (rw f at e ∙ whole_low l u k c a) i d
+with_node : {x : Forest} {p : Part} (l u k c q : ℕ) → q ≡ whole_weight l u k c p.cost % limit → Counts x p → Counts (node l u k c x) (record { rest = p.rest; cost = q })
+with_node l u k c q e (counts {n = a} f) = counts (rw f at e ∙ whole_low l u k c a)
 
-pub goes : (es : List ℕ) (d l u at : ℕ) {k c q : ℕ} {p : Part} → 0 < d → at + 2 ≤ length es → k ≡ get_or es at 0 → c ≡ get_or es (at + 1) 0
-    → Counts es (forest_times (λ ms. subtree (d - 1) l k ms) c (drop (at + 2) es)) p → q ≡ whole_weight l u k c p.cost % limit → Counts es (subtree d l u (drop at es)) (record { next = p.next; cost = q })
-goes es zero l u at z h ek ec n e = absurd (omega arith)
-goes es (suc d) l u at {k} {c} {q} {p} z h ek ec n e =
-    let two : suc (suc at) ≡ at + 2 = omega arith in
+pub goes : (es : List ℕ) (d l u : ℕ) {k c q : ℕ} {p : Part} → 0 < d → 2 ≤ length es → k ≡ get_or es 0 0 → c ≡ get_or es 1 0
+    → Counts (forest_times (λ ms. subtree (d - 1) l k ms) c (drop 2 es)) p → q ≡ whole_weight l u k c p.cost % limit → Counts (subtree d l u es) (record { rest = p.rest; cost = q })
+goes [] d l u z h ek ec n e = absurd (omega arith)
+goes (k' ∷ []) d l u z h ek ec n e = absurd (omega arith)
+goes (k' ∷ (c' ∷ es)) zero l u z h ek ec n e = absurd (omega arith)
+goes (k' ∷ (c' ∷ es)) (suc d) l u {k} {c} {q} {p} z h ek ec n e =
     let g : suc d - 1 ≡ d = omega arith in
-    rw (drop-cons es at 0 (omega arith), drop-cons es (suc at) 0 (omega arith), two, ← add-one at, ← ek, ← ec)
-    (with_node l u k c q e (subst (λ (x : ℕ). Counts es (forest_times (λ ms. subtree x l k ms) c (drop (at + 2) es)) p) g n))
+    rw (← ek, ← ec) (with_node l u k c q e (subst (λ (x : ℕ). Counts (forest_times (λ ms. subtree x l k ms) c es) p) g n))
 
-pub counts_small : {es : List ℕ} {x : Forest} {p : Part} → Counts es x p → p.cost < limit
-counts_small (counts e i d) = omega arith
+pub counts_small : {x : Forest} {p : Part} → Counts x p → p.cost < limit
+counts_small (counts e) = omega arith
 
-counted : {es : List ℕ} {x : Forest} {p : Part} → Counts es x p → p.cost ≡ cost_of x % limit
-counted (counts e i d) = e
+counted : {x : Forest} {p : Part} → Counts x p → p.cost ≡ cost_of x % limit
+counted (counts e) = e
 
-pub all_counted : (es : List ℕ) {l m : ℕ} {p : Part} → m ≡ longest_entry es → l ≡ max 1 m → Counts es (subtree 32 l 0 (drop 0 es)) p → p.cost ≡ of_entries es % limit
-all_counted es em el h = rw (el, em) at (counted h)
+pub all_counted : (es : List ℕ) {l m : ℕ} {p : Part} → m ≡ longest_entry es → l ≡ max m 1 → Counts (subtree 32 l 0 es) p → p.cost ≡ of_entries es % limit
+all_counted es {l} em el h = let e : l ≡ max 1 (longest_entry es) = omega arith in rw e at (counted h)
 
 -- ---- the entries of a file that holds a plain script, as a slice
 

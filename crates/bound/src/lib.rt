@@ -2,30 +2,21 @@
 // array literal, one for the sum over the instructions that the nodes are lowered to.
 #![tactic(auto)]
 
-ghost use Rattle.std.specs.Prelude.{◌≡◌, cond, ◌%◌, ◌≤◌, ◌<◌, max, eqb, length, drop};
+ghost use Rattle.std.specs.Prelude.{◌≡◌, cond, ◌%◌, ◌≤◌, ◌<◌, eqb, length};
 ghost use Rattle.ast.specs.File.{read_tree};
 ghost use Rattle.bound.specs.inner.Weights as Rule;
 ghost use Rattle.bound.specs.inner.Weights.{Counts, limit};
 ghost use Rattle.bound.specs.inner.BoundOf.{bound_of};
 
-// What the instructions of subtrees come to, modulo LIMIT, and the place behind their entries.
+// What the instructions of subtrees come to, modulo LIMIT, and the entries behind theirs.
 #[derive(Clone, Copy)]
-pub struct Part {
-    pub next: usize,
+pub struct Part<'a> {
+    pub rest: &'a [u8],
     pub cost: u64,
 }
 
 // 2 to the power of 48. The bound of a script that is lowered is below it.
 pub const LIMIT: u64 = 281474976710656;
-
-fn larger(a: u64, b: u64) -> u64
-    ensures { result ≡ max a b }
-{
-    if a < b {
-        return b;
-    }
-    a
-}
 
 // The items of an Array.
 fn items(kind: u64, count: u64) -> u64
@@ -43,12 +34,10 @@ fn longest(entries: &[u8]) -> u64
     ensures { (result ≡ Rule.longest_entry entries.now) × (result < 256) }
 {
     let mut most: u64 = 0;
-    let mut i = 0;
-    while i + 1 < entries.len() {
-        let kind = lent::wide(entries[i]);
-        let count = lent::wide(entries[i + 1]);
-        most = larger(most, items(kind, count));
-        i += ast::NODE_SIZE;
+    for i in 0..entries.len() / ast::NODE_SIZE {
+        let kind = lent::wide(entries[2 * i]);
+        let count = lent::wide(entries[2 * i + 1]);
+        most = most.max(items(kind, count));
     }
     most
 }
@@ -126,43 +115,45 @@ fn whole(l: u64, under: u64, kind: u64, count: u64, sum: u64) -> u64
     (weight(under, kind, count) + sum) % LIMIT
 }
 
-// The subtree whose entry is at `at`, under a kind; so many levels are left.
-#[cycle(children_subtree)]
-fn subtree(depth: u64, l: u64, under: u64, entries: &[u8], at: usize) -> Part
-    requires { (l < 256) × (length entries.now ≤ 2048) × (at ≤ length entries.now) }
-    ensures { Counts entries.now (Rule.subtree depth l under (drop at entries.now)) result }
+// The subtree in front, under a kind; so many levels are left.
+#[cycle(subtree)]
+fn subtree<'a>(depth: u64, l: u64, under: u64, entries: &'a [u8]) -> Part<'a>
+    requires { l < 256 }
+    ensures { Counts (Rule.subtree depth l under entries.now) result }
 {
+    let none = Part {
+        rest: entries,
+        cost: 0,
+    };
     if depth == 0 {
-        return Part { next: at, cost: 0 };
+        return none;
     }
-    if entries.len() < at + ast::NODE_SIZE {
-        return Part { next: at, cost: 0 };
-    }
-    let kind = lent::wide(entries[at]);
-    let count = lent::wide(entries[at + 1]);
-    let p = children(depth - 1, l, kind, count, entries, at + ast::NODE_SIZE);
+    let [kind, count, below @ ..] = entries else {
+        return none;
+    };
+    let kind = lent::wide(*kind);
+    let count = lent::wide(*count);
+    let p = children(depth - 1, l, kind, count, below);
     Part {
-        next: p.next,
+        rest: p.rest,
         cost: whole(l, under, kind, count, p.cost),
     }
 }
 
-// So many subtrees from `at` on, under a kind.
-#[cycle(children_subtree)]
-fn children(depth: u64, l: u64, under: u64, count: u64, entries: &[u8], at: usize) -> Part
-    requires { (l < 256) × (length entries.now ≤ 2048) × (at ≤ length entries.now) }
-    ensures { Counts entries.now (Rule.forest_times (λ es. Rule.subtree depth l under es) count (drop at entries.now)) result }
+// So many subtrees, under a kind.
+#[cycle(subtree)]
+fn children<'a>(depth: u64, l: u64, under: u64, count: u64, entries: &'a [u8]) -> Part<'a>
+    requires { l < 256 }
+    ensures { Counts (Rule.forest_times (λ es. Rule.subtree depth l under es) count entries.now) result }
 {
-    let mut next = at;
+    let mut rest = entries;
     let mut cost: u64 = 0;
-    let mut more = count;
-    while 0 < more {
-        let p = subtree(depth, l, under, entries, next);
-        next = p.next;
+    for _ in 0..count {
+        let p = subtree(depth, l, under, rest);
+        rest = p.rest;
         cost = (cost + p.cost) % LIMIT;
-        more -= 1;
     }
-    Part { next, cost }
+    Part { rest, cost }
 }
 
 // All entries: Program's depth is 1 of 32.
@@ -170,9 +161,8 @@ fn of_entries(entries: &[u8]) -> u64
     requires { length entries.now ≤ 2048 }
     ensures { result ≡ Rule.of_entries entries.now % limit }
 {
-    let l = larger(1, longest(entries));
-    let p = subtree(ast::DEPTH, l, 0, entries, 0);
-    p.cost
+    let l = longest(entries).max(1);
+    subtree(ast::DEPTH, l, 0, entries).cost
 }
 
 // The bound of a plain script; 0 where the file is refused or holds none.

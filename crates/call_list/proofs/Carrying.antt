@@ -1,6 +1,7 @@
 -- A list of calls, carried out one by one.
 use mathlib.Core.Path.{◌≡◌, refl, sym, ap, ◌∙◌, subst}
 use mathlib.Core.Bool.{Bool, true, false, cond}
+use Rattle.std.specs.Prelude.{None}
 use mathlib.Core.List.{List}
 use mathlib.Core.Option.{Option, none, some}
 use Prim.Native.Nat.{ℕ, zero, suc, ◌+◌, ◌*◌, ◌-◌, ◌/◌, ◌≤◌, ◌<◌, min}
@@ -21,8 +22,7 @@ use Rattle.tables.specs.ProgramBytes.{program_in}
 use Rattle.demand3.specs.CallList.{Call, Run, ReadName, Ending, ending_in, latest, AfterCalls, NoEffect, with_effect, outcome, call_all, fresh}
 use Rattle.demand3.specs.Demand3 as claimed
 use Rattle.demand3.proofs.laws.Demand3Proof as demand
-use Rattle.call_list.specs.declared.Last.{Last}
-use Rattle.call_list.specs.CallBytes.{lent_out, call_by, call_of, and_calls, calls_from, calls_in, last_of}
+use Rattle.call_list.specs.CallBytes.{lent_out, call_by, call_of, and_calls, calls_from, calls_in, Last, last_of}
 use Rattle.call_list.specs.CarriedOut.{Leaves, after_entry, OneCall, CarriedOut}
 use Rattle.lent.specs.Lists.{zeros}
 
@@ -75,8 +75,8 @@ pub record Going (q calls state₀ : List ℕ) (n i : ℕ) (state : List ℕ) (l
   pub few : i ≤ n
   pub rest : call_all q (calls_from n calls) (fresh state₀) ≡ call_all q (calls_from (n - i) (drop (16 * i) calls)) left
 
-pub going_start : (q calls state : List ℕ) (n : ℕ) (last : Last) → last.given ≡ false → Going q calls state n 0 state last
-going_start q calls state n last e = record { left = fresh state; leaves = record { bytes = refl; last = rw e }; few = omega arith; rest = let z : n ≡ n - 0 = omega arith in ap (λ (k : ℕ). call_all q (calls_from k calls) (fresh state)) z }
+pub going_start : (q calls state : List ℕ) (n : ℕ) → Going q calls state n 0 state None
+going_start q calls state n = record { left = fresh state; leaves = record { bytes = refl; last = refl }; few = omega arith; rest = let z : n ≡ n - 0 = omega arith in ap (λ (k : ℕ). call_all q (calls_from k calls) (fresh state)) z }
 
 and_calls_lem : (q : List ℕ) (o : Option Call) (cs : List Call) (l : AfterCalls) → call_all q (and_calls o cs) l ≡ call_all q cs (after_entry q o l)
 and_calls_lem q none cs l = refl

@@ -1,9 +1,9 @@
 -- A list of calls in bytes, so that code can carry it out: docs/FORMATS.md, "List of calls". Definitions only.
-use Rattle.std.specs.Prelude.{ℕ, zero, suc, ◌/◌, min, cond, List, [], ◌∷◌, eqb, length, get_or, take, drop}
+use Rattle.std.specs.Prelude.{ℕ, zero, suc, ◌/◌, min, cond, List, [], ◌∷◌, eqb, length, get_or, take, drop, Option as Held, Some, None}
 use Rattle.std.proofs.Math.Option.{Option, none, some}
 use Rattle.lent.specs.Bytes.{be_value, part}
 use Rattle.demand3.specs.CallList.{Call, Run, ReadName, Ending}
-use Rattle.call_list.specs.declared.Last.{Last}
+use Rattle.call_list.specs.declared.Ending.{Ending as Told}
 use Rattle.lent.specs.Lists.{zeros}
 
 -- 16 bytes: kind, 5 bytes that are not looked at, length of the buffer lent for the answer, number
@@ -36,6 +36,10 @@ calls_from (suc n) b = and_calls (call_of (take 16 b)) (calls_from n (drop 16 b)
 abbrev pub calls_in : List ℕ → List Call
 calls_in b = calls_from (length b / 16) b
 
--- how the last steps given ended, as the code answers it
+-- how the last steps given ended, as the code answers it, where any were
+abbrev pub Last : Type 0
+Last = Held Told
+
 abbrev pub last_of : Last → Option Ending
-last_of l = cond l.given (some (record { answer = l.answer; number = l.number; details = l.a ∷ (l.b ∷ (l.c ∷ [])) })) none
+last_of None = none
+last_of (Some e) = some (record { answer = e.answer; number = e.number; details = e.details })

@@ -5,8 +5,7 @@ use Rattle.ast.specs.Tree.{Stmts}
 use Rattle.boundary.specs.LowerCall.{lower_call}
 use Rattle.boundary.specs.StartCall.{start_call}
 use Rattle.demand3.specs.CallList.{Call, AfterCalls, after_call, call_all, fresh}
-use Rattle.call_list.specs.declared.Last.{Last}
-use Rattle.call_list.specs.CallBytes.{last_of, calls_in}
+use Rattle.call_list.specs.CallBytes.{Last, last_of, calls_in}
 use Rattle.demand3.specs.Demand3.{Starts, Demand3}
 
 -- the state and the last ending of what calls have left

@@ -1,7 +1,7 @@
 // A list of calls, carried out.
 #![tactic(auto)]
 
-ghost use Rattle.std.specs.Prelude.{◌≡◌, ◌+◌, ◌*◌, ◌≤◌, ◌<◌, min, length};
+ghost use Rattle.std.specs.Prelude.{◌≡◌, ◌+◌, ◌*◌, ◌≤◌, ◌<◌, min, length, Some};
 ghost use Rattle.std.proofs.Math.Option.{some};
 ghost use Rattle.lent.specs.Bytes.{be_value, part};
 ghost use Rattle.demand3.specs.CallList.{Run, ReadName, ending_in};
@@ -22,49 +22,58 @@ pub const CALL_RUN: u8 = 0;
 
 pub const CALL_READ_NAME: u8 = 1;
 
-// How the last steps given ended, where any were.
-#[derive(Clone, Copy)]
-pub struct Last {
-    pub given: bool,
+// How steps given ended: the answer, and of a stop its number and details.
+#[derive(Clone, Copy, PartialEq, Eq, Debug)]
+pub struct Ending {
     pub answer: u8,
     pub number: u8,
-    pub a: u64,
-    pub b: u64,
-    pub c: u64,
+    pub details: [u64; 3],
 }
 
 // The ending that a report tells.
-fn told(report: &[u8]) -> Last
+fn ending_of(report: &[u8]) -> Ending
     requires { 48 ≤ length report.now }
-    ensures { last_of result ≡ some (ending_in report.now) }
+    ensures { last_of (Some result) ≡ some (ending_in report.now) }
 {
-    Last {
-        given: true,
+    Ending {
         answer: report[0],
         number: report[vm::REPORT_STOP],
-        a: lent::get_u64(report, vm::REPORT_DETAILS),
-        b: lent::get_u64(report, vm::REPORT_DETAIL_2),
-        c: lent::get_u64(report, vm::REPORT_DETAIL_3),
+        details: [
+            lent::get_u64(report, vm::REPORT_DETAILS),
+            lent::get_u64(report, vm::REPORT_DETAIL_2),
+            lent::get_u64(report, vm::REPORT_DETAIL_3),
+        ],
     }
 }
 
-fn run_next(program: &[u8], state: &mut [u8], steps: u64, out: &mut [u8], last: Last) -> Last
+fn run_next(
+    program: &[u8],
+    state: &mut [u8],
+    steps: u64,
+    out: &mut [u8],
+    last: Option<Ending>,
+) -> Option<Ending>
     ensures { OneCall program.now (some (Run steps out.old)) state.old last state.new result }
 {
-    let n = calls::run_call::run(program, state, steps, out);
-    if n != 0 {
+    if calls::run_call::run(program, state, steps, out).is_err() {
         return last;
     }
     if steps == 0 {
         return last;
     }
-    told(out)
+    Some(ending_of(out))
 }
 
-fn read_next(program: &[u8], state: &[u8], text: u64, out: &mut [u8], last: Last) -> Last
+fn read_next(
+    program: &[u8],
+    state: &[u8],
+    text: u64,
+    out: &mut [u8],
+    last: Option<Ending>,
+) -> Option<Ending>
     ensures { OneCall program.now (some (ReadName text out.old)) state.now last state.now result }
 {
-    let n = calls::read_call::read_name(state, text, out);
+    let _ = calls::read_call::read_name(state, text, out);
     last
 }
 
@@ -73,15 +82,17 @@ fn out_length(calls: &[u8], at: usize) -> usize
     requires { at + 16 ≤ length calls.now }
     ensures { result ≡ min (be_value (part calls.now (at + 6) 2)) 256 }
 {
-    let n = lent::get_u16(calls, at + CALL_LENGTH) as usize;
-    if n < CALL_LENT {
-        return n;
-    }
-    CALL_LENT
+    (lent::get_u16(calls, at + CALL_LENGTH) as usize).min(CALL_LENT)
 }
 
 // The call at byte `at` of a list, by its kind.
-fn call_next(program: &[u8], state: &mut [u8], calls: &[u8], at: usize, last: Last) -> Last
+fn call_next(
+    program: &[u8],
+    state: &mut [u8],
+    calls: &[u8],
+    at: usize,
+    last: Option<Ending>,
+) -> Option<Ending>
     requires { at + 16 ≤ length calls.now }
     ensures { OneCall program.now (call_of (part calls.now at 16)) state.old last state.new result }
 {
@@ -99,22 +110,12 @@ fn call_next(program: &[u8], state: &mut [u8], calls: &[u8], at: usize, last: La
 }
 
 // Every call of the list, one after the other.
-pub fn call_all(program: &[u8], state: &mut [u8], calls: &[u8]) -> Last
+pub fn call_all(program: &[u8], state: &mut [u8], calls: &[u8]) -> Option<Ending>
     ensures { CarriedOut program.now calls.now state.old state.new result }
 {
-    let n = calls.len() / CALL_SIZE;
-    let mut last = Last {
-        given: false,
-        answer: 0,
-        number: 0,
-        a: 0,
-        b: 0,
-        c: 0,
-    };
-    let mut i = 0;
-    while i < n {
+    let mut last = None;
+    for i in 0..calls.len() / CALL_SIZE {
         last = call_next(program, state, calls, CALL_SIZE * i, last);
-        i += 1;
     }
     last
 }

@@ -1,6 +1,7 @@
 // The call run.
 ghost use Rattle.std.specs.Prelude.{◌≡◌, true, ◌+◌, ◌≤◌, ◌<◌, ◌^◌, length};
 ghost use Rattle.lent.specs.Lists.{is_some};
+ghost use Rattle.lent.specs.inner.Answers.{answer_number};
 ghost use Rattle.tables.specs.ProgramBytes.{decode_program, program_in};
 ghost use Rattle.vm.specs.Machine as Machine;
 ghost use Rattle.execute.specs.inner.View.{Canon};
@@ -10,6 +11,7 @@ ghost use Rattle.boundary.specs.RunCall.{run_call};
 ghost use Rattle.calls.specs.inner.Finished.{Finished, run_on};
 
 use execute::Progress;
+use lent::refusal::Refusal;
 use run::Ran;
 
 // At most so many steps on the used bytes of a state, which are then the state behind them.
@@ -28,18 +30,18 @@ fn run_used(program: &[u8], state: &mut [u8], n: usize, steps: u64, first: Progr
 }
 
 // 10; at most so many steps, and the report.
-fn run_on(program: &[u8], state: &mut [u8], steps: u64, report: &mut [u8]) -> u64
+fn run_on(program: &[u8], state: &mut [u8], steps: u64, report: &mut [u8]) -> Result<(), Refusal>
     requires { (40960 ≤ length program.now) × (65536 ≤ length state.old) × (48 ≤ length report.old) × (is_some (decode_program program.now) ≡ true) }
-    ensures { run_on program.now state.old steps report.old ≡ record { result = result; state = state.new; report = report.new } }
+    ensures { run_on program.now state.old steps report.old ≡ record { result = answer_number result; state = state.new; report = report.new } }
 {
     let n = program::count_of(program);
     if !state::state_ok(state, n as u64) {
-        return lent::STATE_REFUSED;
+        return Err(Refusal::StateRefused);
     }
     let first = state::progress_of(state);
     let count = first.count;
     if 18446744073709551615 - count < steps {
-        return lent::STATE_REFUSED;
+        return Err(Refusal::StateRefused);
     }
     let ran = run_used(program, &mut state[0..stored::STATE_USED], n, steps, first);
     let answer = ran.answer;
@@ -47,24 +49,24 @@ fn run_on(program: &[u8], state: &mut [u8], steps: u64, report: &mut [u8]) -> u6
     let loc = last.loc;
     let start = program::start_of(program) as u64;
     report::write_report(report, start, answer, loc.pos, last.count - count);
-    0
+    Ok(())
 }
 
 // 9, 8, 10; at most so many steps.
-pub fn run(program: &[u8], state: &mut [u8], steps: u64, report: &mut [u8]) -> u64
-    ensures { run_call program.now state.old steps report.old ≡ record { result = result; state = state.new; report = report.new } }
+pub fn run(program: &[u8], state: &mut [u8], steps: u64, report: &mut [u8]) -> Result<(), Refusal>
+    ensures { run_call program.now state.old steps report.old ≡ record { result = answer_number result; state = state.new; report = report.new } }
 {
     if program.len() < tables::PROGRAM_SIZE {
-        return lent::BUFFER_TOO_SHORT;
+        return Err(Refusal::BufferTooShort);
     }
     if state.len() < stored::STATE_SIZE {
-        return lent::BUFFER_TOO_SHORT;
+        return Err(Refusal::BufferTooShort);
     }
     if report.len() < vm::REPORT_SIZE {
-        return lent::BUFFER_TOO_SHORT;
+        return Err(Refusal::BufferTooShort);
     }
     if !program::program_ok(program) {
-        return lent::PROGRAM_REFUSED;
+        return Err(Refusal::ProgramRefused);
     }
     run_on(program, state, steps, report)
 }

@@ -1,4 +1,5 @@
 -- Laws and lemmas, and definitions that only proofs need. A reader may skip them.
+pub mod Items
 pub mod Joins
 pub mod Laws
 pub mod Leaves

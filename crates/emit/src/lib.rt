@@ -1,22 +1,25 @@
 // Emitting: what an event of the lowering changes, in the state and in the program buffer (`nextreg`, `push_op` of compiler.rs).
 #![tactic(auto)]
 
-ghost use Rattle.std.specs.Prelude.{◌≡◌, Bool, true, cond, List, [], ◌∷◌, ℕ, ◌+◌, ◌*◌, ◌-◌, ◌^◌, ◌≤◌, ◌<◌, eqb, length, drop, get_or};
-ghost use Rattle.sifv.specs.Value.{Bl, One};
+ghost use Rattle.std.specs.Prelude.{◌≡◌, true, cond, List, [], ◌∷◌, ℕ, ◌+◌, ◌*◌, ◌-◌, ◌^◌, ◌≤◌, ◌<◌, eqb, length, drop, get_or};
+ghost use Rattle.sifv.specs.Value.{One};
+ghost use Rattle.sifv.specs.inner.Seen.{single_seen};
 ghost use Rattle.lent.specs.Bytes.{be_value, part, splice};
 ghost use Rattle.opc.specs.Op.{Instr, op, Ldc, Stc, Stn, Str};
 ghost use Rattle.opc.specs.Record.{items_of, encode_instr, field_bytes, fields};
 ghost use Rattle.opc.specs.inner.Fetch.{fields_told};
-ghost use Rattle.ast.specs.Tree.{Lit, Val, Text, Literal, Name};
+ghost use Rattle.ast.specs.Tree.{Name};
 ghost use Rattle.compiler.specs.Lower.{Place, ask_below, prev, Reg, push, load, lower_expr};
-ghost use Rattle.compiler.specs.Literals.{literal};
-ghost use Rattle.emit.specs.inner.Run.{kept, after_events, step_event, refuse, no_room, counted, Ready, Did, PushesOp, Loads};
+ghost use Rattle.emit.specs.inner.Run.{kept, after_events, step_event, refuse, no_room, counted, Ready, Did, PushesItems, PushesOp, Loads};
 ghost use Rattle.emit.specs.inner.Made.{Made, bin_code};
+ghost use Rattle.emit.specs.inner.Literals.{lit_size, value_at};
+
+use lent::refusal::Refusal;
 
 // Refusals and limits in the types of `Low`.
-pub const SCRIPT_TOO_LARGE: u16 = lent::SCRIPT_TOO_LARGE as u16;
+pub const SCRIPT_TOO_LARGE: u16 = Refusal::ScriptTooLarge as u16;
 
-const NO_REGISTER: u16 = lent::NO_REGISTER as u16;
+const NO_REGISTER: u16 = Refusal::NoRegister as u16;
 
 const REGISTERS: u8 = opc::REGISTERS as u8;
 
@@ -60,7 +63,10 @@ pub fn newlbl(p: Done) -> Done
     requires { p.lbl + 1 < 2 ^ 64 }
     ensures { result ≡ record { cont = p.cont; body = p.body; lbl = p.lbl + 1; low = p.low } }
 {
-    start(p.cont, p.body, p.lbl + 1, p.low)
+    Done {
+        lbl: p.lbl + 1,
+        ..p
+    }
 }
 
 // u bytes more of the entries, v of the bodies.
@@ -68,27 +74,24 @@ pub fn pass(p: Done, u: usize, v: usize) -> Done
     requires { (p.cont + u < 2 ^ 64) × (p.body + v < 2 ^ 64) }
     ensures { result ≡ record { cont = p.cont + u; body = p.body + v; lbl = p.lbl; low = p.low } }
 {
-    start(p.cont + u, p.body + v, p.lbl, p.low)
+    Done {
+        cont: p.cont + u,
+        body: p.body + v,
+        ..p
+    }
 }
 
 // The same place and label, with another state.
 pub fn with(p: Done, low: Low) -> Done
     ensures { result ≡ record { cont = p.cont; body = p.body; lbl = p.lbl; low = low } }
 {
-    start(p.cont, p.body, p.lbl, low)
+    Done { low, ..p }
 }
 
 pub fn refused(low: Low, n: u16) -> Low
     ensures { result ≡ refuse n low }
 {
-    Low {
-        reg: low.reg,
-        count: low.count,
-        recs: low.recs,
-        items: low.items,
-        refused: n,
-        decls: low.decls,
-    }
+    Low { refused: n, ..low }
 }
 
 pub fn nextreg(low: Low) -> Low
@@ -103,18 +106,14 @@ pub fn nextreg(low: Low) -> Low
     }
     Low {
         reg: low.reg + 1,
-        count: low.count,
-        recs: low.recs,
-        items: low.items,
-        refused: low.refused,
-        decls: low.decls,
+        ..low
     }
 }
 
 pub fn prevreg(low: Low) -> u8
     ensures { result ≡ prev low.reg }
 {
-    if low.reg == 0 { 0 } else { low.reg - 1 }
+    low.reg.saturating_sub(1)
 }
 
 // `self.ri - 1` where there is none.
@@ -146,21 +145,15 @@ pub fn count(keep: bool, low: Low, n: usize) -> Low
 {
     if keep {
         return Low {
-            reg: low.reg,
             count: low.count + 1,
             recs: low.recs + 1,
             items: low.items + n as u32,
-            refused: low.refused,
-            decls: low.decls,
+            ..low
         };
     }
     Low {
-        reg: low.reg,
         count: low.count + 1,
-        recs: low.recs,
-        items: low.items,
-        refused: low.refused,
-        decls: low.decls,
+        ..low
     }
 }
 
@@ -175,18 +168,27 @@ pub fn keep_record(keep: bool, index: usize, f: opc::Fields, out: &mut [u8])
     }
 }
 
-pub fn push_op(keep: bool, low: Low, f: opc::Fields, out: &mut [u8]) -> Low
-    requires { Ready low out.old }
-    ensures { PushesOp keep low (field_bytes (fields_told f)) out.old result out.new }
+// An instruction with n items: its record; the items are written by the caller, where a record was.
+pub fn push_items(keep: bool, low: Low, f: opc::Fields, n: usize, out: &mut [u8]) -> Low
+    requires { Ready low out.old × (n ≤ 1024) }
+    ensures { PushesItems keep low n (field_bytes (fields_told f)) out.old result out.new }
 {
     if low.refused != 0 {
         return low;
     }
-    if is_full(keep, low, 0) {
+    if is_full(keep, low, n) {
         return refused(low, SCRIPT_TOO_LARGE);
     }
     keep_record(keep, low.recs as usize, f, out);
-    count(keep, low, 0)
+    count(keep, low, n)
+}
+
+// One with none.
+pub fn push_op(keep: bool, low: Low, f: opc::Fields, out: &mut [u8]) -> Low
+    requires { Ready low out.old }
+    ensures { PushesOp keep low (field_bytes (fields_told f)) out.old result out.new }
+{
+    push_items(keep, low, f, 0, out)
 }
 
 // A value into the next register.
@@ -234,16 +236,16 @@ pub fn push_at(keep: bool, p: Done, f: opc::Fields, out: &mut [u8]) -> Done
     requires { Ready p.low out.old }
     ensures { (result.cont ≡ p.cont) × (result.body ≡ p.body) × (result.lbl ≡ p.lbl) × PushesOp keep p.low (field_bytes (fields_told f)) out.old result.low out.new }
 {
-    let q = push_op(keep, p.low, f, out);
-    start(p.cont, p.body, p.lbl, q)
+    let low = push_op(keep, p.low, f, out);
+    with(p, low)
 }
 
 pub fn load_at(keep: bool, p: Done, f: opc::Fields, out: &mut [u8]) -> Done
     requires { Ready p.low out.old }
     ensures { (result.cont ≡ p.cont) × (result.body ≡ p.body) × (result.lbl ≡ p.lbl) × Loads keep p.low (field_bytes (fields_told f)) out.old result.low out.new }
 {
-    let q = load(keep, p.low, f, out);
-    start(p.cont, p.body, p.lbl, q)
+    let low = load(keep, p.low, f, out);
+    with(p, low)
 }
 
 // What was read in a part, counted from the whole's start.
@@ -251,7 +253,11 @@ pub fn moved(cont: usize, body: usize, r: Done) -> Done
     requires { (cont + r.cont < 2 ^ 64) × (body + r.body < 2 ^ 64) }
     ensures { result ≡ record { cont = cont + r.cont; body = body + r.body; lbl = r.lbl; low = r.low } }
 {
-    start(cont + r.cont, body + r.body, r.lbl, r.low)
+    Done {
+        cont: cont + r.cont,
+        body: body + r.body,
+        ..r
+    }
 }
 
 // What was read in a part, counted from the whole's start; then the test of the register before.
@@ -260,33 +266,55 @@ pub fn shift(cont: usize, body: usize, r: Done) -> Done
     ensures { result ≡ record { cont = cont + r.cont; body = body + r.body; lbl = r.lbl; low = after_events (ask_below r.low.reg) r.low } }
 {
     let low = below(r.low);
-    start(cont + r.cont, body + r.body, r.lbl, low)
+    moved(cont, body, with(r, low))
 }
 
-pub fn load_num(bodies: &[u8], keep: bool, lbl: u64, low: Low, out: &mut [u8]) -> Done
-    requires { Ready low out.old × (8 ≤ length bodies.now) }
-    ensures { (b : ℕ) → b ≡ be_value (part bodies.now 0 8) → (w : Place) → keep ≡ kept low.decls w.section → Made (lower_expr (Literal (Val b)) w lbl low.reg) 2 8 lbl low out.old result out.new }
+// The value of a literal's node, by its kind, whose body begins at `at`.
+pub fn literal_value(kind: u8, bodies: &[u8], at: usize) -> sifv::SifVal
+    requires { (kind ≡ 19 → at + 8 ≤ length bodies.now) × (kind ≡ 20 → at < length bodies.now) }
+    ensures { single_seen result ≡ value_at kind bodies.now at }
 {
-    let word = sifv::word_of(sifv::SifVal::Num(ast::node::number(bodies)));
-    load_at(
-        keep,
-        start(ast::NODE_SIZE, sifv::NUMBER_SIZE, lbl, low),
-        fields_of(lbl, opc::OP_LDC, opc::NUM, low.reg, 0, 0, word),
-        out,
-    )
+    if kind == ast::KIND_NUM {
+        return sifv::SifVal::Num(numeric::from_bits(lent::get_u64(bodies, at)));
+    }
+    if kind == ast::KIND_TEXT {
+        return sifv::SifVal::Str(lent::wide(bodies[at]));
+    }
+    sifv::SifVal::Bl(kind == ast::KIND_TRUE)
 }
 
-pub fn load_text(bodies: &[u8], keep: bool, lbl: u64, low: Low, out: &mut [u8]) -> Done
-    requires { Ready low out.old × (1 ≤ length bodies.now) }
-    ensures { (t : ℕ) → t ≡ get_or bodies.now 0 0 → (w : Place) → keep ≡ kept low.decls w.section → Made (lower_expr (Literal (Text t)) w lbl low.reg) 2 1 lbl low out.old result out.new }
+// The bytes of its body.
+pub fn literal_size(kind: u8) -> usize
+    ensures { result ≡ lit_size kind }
 {
-    let t = lent::wide(bodies[0]);
-    load_at(
-        keep,
-        start(ast::NODE_SIZE, 1, lbl, low),
-        fields_of(lbl, opc::OP_LDC, opc::STR, low.reg, 0, 0, t),
-        out,
-    )
+    if kind == ast::KIND_NUM {
+        return sifv::NUMBER_SIZE;
+    }
+    if kind == ast::KIND_TEXT {
+        return 1;
+    }
+    0
+}
+
+// A number, a text, True or False into the next register. Inlined, so that the operands of a call take no stack at each level
+// of the tree.
+#[inline(always)]
+pub fn load_literal(kind: u8, bodies: &[u8], keep: bool, lbl: u64, low: Low, out: &mut [u8]) -> Done
+    requires { Ready low out.old × (kind ≡ 19 → 8 ≤ length bodies.now) × (kind ≡ 20 → 1 ≤ length bodies.now) }
+    ensures { (w : Place) → keep ≡ kept low.decls w.section → Made (load w lbl (Ldc low.reg (One (value_at kind bodies.now 0)))) 2 (lit_size kind) lbl low out.old result out.new }
+{
+    let v = literal_value(kind, bodies, 0);
+    let p = start(ast::NODE_SIZE, literal_size(kind), lbl, low);
+    let f = fields_of(
+        lbl,
+        opc::OP_LDC,
+        sifv::item_kind(v),
+        low.reg,
+        0,
+        0,
+        sifv::word_of(v),
+    );
+    load_at(keep, p, f, out)
 }
 
 pub fn load_name(bodies: &[u8], keep: bool, lbl: u64, low: Low, out: &mut [u8]) -> Done
@@ -302,43 +330,32 @@ pub fn load_name(bodies: &[u8], keep: bool, lbl: u64, low: Low, out: &mut [u8]) 
     )
 }
 
-pub fn load_bl(v: u64, keep: bool, lbl: u64, low: Low, out: &mut [u8]) -> Done
-    requires { Ready low out.old }
-    ensures { (b : Bool) → v ≡ cond b 1 0 → (w : Place) → keep ≡ kept low.decls w.section → Made (load w lbl (Ldc low.reg (One (Bl b)))) 2 0 lbl low out.old result out.new }
+// `match_primary_assign`: a number, a text, True or False; a name. A load takes a register first, which makes two events; a store
+// is one. So they stay two functions.
+pub fn put_literal(
+    x: u8,
+    kind: u8,
+    bodies: &[u8],
+    keep: bool,
+    lbl: u64,
+    low: Low,
+    out: &mut [u8],
+) -> Done
+    requires { Ready low out.old × (kind ≡ 19 → 8 ≤ length bodies.now) × (kind ≡ 20 → 1 ≤ length bodies.now) }
+    ensures { (w : Place) → keep ≡ kept low.decls w.section → Made (push w lbl (Stc (One (value_at kind bodies.now 0)) x) ∷ []) 2 (lit_size kind) lbl low out.old result out.new }
 {
-    load_at(
-        keep,
-        start(ast::NODE_SIZE, 0, lbl, low),
-        fields_of(lbl, opc::OP_LDC, opc::BL, low.reg, 0, 0, v),
-        out,
-    )
-}
-
-// `match_primary_assign`: a number, a text, a name, True or False.
-pub fn put_num(x: u8, bodies: &[u8], keep: bool, lbl: u64, low: Low, out: &mut [u8]) -> Done
-    requires { Ready low out.old × (8 ≤ length bodies.now) }
-    ensures { (b : ℕ) → b ≡ be_value (part bodies.now 0 8) → (w : Place) → keep ≡ kept low.decls w.section → Made (push w lbl (Stc (One (literal (Val b))) x) ∷ []) 2 8 lbl low out.old result out.new }
-{
-    let word = sifv::word_of(sifv::SifVal::Num(ast::node::number(bodies)));
-    push_at(
-        keep,
-        start(ast::NODE_SIZE, sifv::NUMBER_SIZE, lbl, low),
-        fields_of(lbl, opc::OP_STC, opc::NUM, x, 0, 0, word),
-        out,
-    )
-}
-
-pub fn put_text(x: u8, bodies: &[u8], keep: bool, lbl: u64, low: Low, out: &mut [u8]) -> Done
-    requires { Ready low out.old × (1 ≤ length bodies.now) }
-    ensures { (t : ℕ) → t ≡ get_or bodies.now 0 0 → (w : Place) → keep ≡ kept low.decls w.section → Made (push w lbl (Stc (One (literal (Text t))) x) ∷ []) 2 1 lbl low out.old result out.new }
-{
-    let t = lent::wide(bodies[0]);
-    push_at(
-        keep,
-        start(ast::NODE_SIZE, 1, lbl, low),
-        fields_of(lbl, opc::OP_STC, opc::STR, x, 0, 0, t),
-        out,
-    )
+    let v = literal_value(kind, bodies, 0);
+    let p = start(ast::NODE_SIZE, literal_size(kind), lbl, low);
+    let f = fields_of(
+        lbl,
+        opc::OP_STC,
+        sifv::item_kind(v),
+        x,
+        0,
+        0,
+        sifv::word_of(v),
+    );
+    push_at(keep, p, f, out)
 }
 
 pub fn put_name(x: u8, bodies: &[u8], keep: bool, lbl: u64, low: Low, out: &mut [u8]) -> Done
@@ -350,19 +367,6 @@ pub fn put_name(x: u8, bodies: &[u8], keep: bool, lbl: u64, low: Low, out: &mut 
         keep,
         start(ast::NODE_SIZE, 1, lbl, low),
         fields_of(lbl, opc::OP_STN, 0, y, x, 0, 0),
-        out,
-    )
-}
-
-pub fn put_bl(x: u8, t: bool, keep: bool, lbl: u64, low: Low, out: &mut [u8]) -> Done
-    requires { Ready low out.old }
-    ensures { (b : Bool) → b ≡ t → (w : Place) → keep ≡ kept low.decls w.section → Made (push w lbl (Stc (One (Bl b)) x) ∷ []) 2 0 lbl low out.old result out.new }
-{
-    let word = sifv::word_of(sifv::SifVal::Bl(t));
-    push_at(
-        keep,
-        start(ast::NODE_SIZE, 0, lbl, low),
-        fields_of(lbl, opc::OP_STC, opc::BL, x, 0, 0, word),
         out,
     )
 }

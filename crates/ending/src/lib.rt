@@ -2,158 +2,113 @@
 #![tactic(auto)]
 
 ghost use Rattle.std.specs.Prelude.{◌≡◌, [], ◌∷◌, ◌++◌, ◌+◌, ◌*◌, ◌≤◌, ◌<◌, length, take};
-ghost use Rattle.std.specs.Int.Count.{ones_in};
 ghost use Rattle.lent.specs.Bytes.{be_value, part};
 ghost use Rattle.sifv.specs.Slot.{decode_slot};
-ghost use Rattle.text.specs.Text.{ascii, decimal, number_fields};
-ghost use Rattle.text.specs.Put.{Put};
+ghost use Rattle.text.specs.Text.{ascii, number_fields};
+ghost use Rattle.text.specs.inner.Appended.{Appended};
 ghost use Rattle.listing_text.specs.Ending.{signed, name_line};
 ghost use Rattle.ending.specs.inner.EndBytes.{signed_of, detail_count, stop_in, end_in, held_in, names_in, ran_in};
 
+use sifv::SifVal;
+use text::Writer;
+
 // How many details a stop has.
-fn detail_count(n: u64) -> u64
-    ensures { result ≡ detail_count n }
+fn detail_count(number: u64) -> usize
+    ensures { result ≡ detail_count number }
 {
-    if n == vm::INDEX_OUT_OF_BOUNDS {
-        return 3;
+    match number {
+        vm::INDEX_OUT_OF_BOUNDS => 3,
+        vm::INVALID_NAME | vm::REG_NO_CONTENTS | vm::NOT_AN_ARRAY | vm::INVALID_FN_SYM => 1,
+        _ => 0,
     }
-    if n == vm::INVALID_NAME {
-        return 1;
-    }
-    if n == vm::REG_NO_CONTENTS {
-        return 1;
-    }
-    if n == vm::NOT_AN_ARRAY {
-        return 1;
-    }
-    if n == vm::INVALID_FN_SYM {
-        return 1;
-    }
-    0
 }
 
 // The details of the stop with a number, a blank before each.
-fn put_details(out: &mut [u8], at: usize, report: &[u8], number: u64) -> usize
-    requires { (at ≤ length out.old) × (48 ≤ length report.now) }
-    ensures { Put out.old at (number_fields (take (detail_count number) (be_value (part report.now 16 8) ∷ (be_value (part report.now 24 8) ∷ (be_value (part report.now 32 8) ∷ []))))) out.new result }
+fn put_details(w: &mut Writer, report: &[u8], number: u64)
+    requires { 48 ≤ length report.now }
+    ensures { Appended w.old (number_fields (take (detail_count number) (be_value (part report.now 16 8) ∷ (be_value (part report.now 24 8) ∷ (be_value (part report.now 32 8) ∷ []))))) w.new }
 {
-    let n = detail_count(number);
-    if n == 0 {
-        return at;
+    for i in 0..detail_count(number) {
+        w.put_field(lent::get_u64(report, vm::REPORT_DETAILS + 8 * i));
     }
-    let p = text::put_field(out, at, lent::get_u64(report, vm::REPORT_DETAILS));
-    if n == 1 {
-        return p;
-    }
-    let q = text::put_field(out, p, lent::get_u64(report, vm::REPORT_DETAIL_2));
-    text::put_field(out, q, lent::get_u64(report, vm::REPORT_DETAIL_3))
 }
 
 // A signed number, from its two's complement, with a blank before it.
-fn put_signed(out: &mut [u8], at: usize, w: u64) -> usize
-    requires { at ≤ length out.old }
-    ensures { Put out.old at (ascii " " ++ signed (signed_of w)) out.new result }
+fn put_signed(w: &mut Writer, word: u64)
+    ensures { Appended w.old (ascii " " ++ signed (signed_of word)) w.new }
 {
-    if w < 9223372036854775808 {
-        return text::put_field(out, at, w);
+    if word < 1 << 63 {
+        w.put_field(word);
+    } else {
+        w.put_all(b" -");
+        w.put_decimal(u64::MAX - word + 1);
     }
-    let p = text::put_all(out, at, b" -");
-    text::put_decimal(out, p, 18446744073709551615 - w + 1)
 }
 
 // The end line of a stop.
-fn put_stop(out: &mut [u8], at: usize, report: &[u8], count: u64) -> usize
-    requires { (at ≤ length out.old) × (48 ≤ length report.now) }
-    ensures { Put out.old at (stop_in report.now count) out.new result }
+fn put_stop(w: &mut Writer, report: &[u8], count: u64)
+    requires { 48 ≤ length report.now }
+    ensures { Appended w.old (stop_in report.now count) w.new }
 {
-    let number = lent::wide(report[vm::REPORT_STOP]);
-    let line = lent::get_u64(report, vm::REPORT_LINE);
-    let p = text::put_all(out, at, b"end stopped");
-    let q = text::put_field(out, p, count);
-    let s = text::put_field(out, q, number);
-    let t = put_signed(out, s, line);
-    let u = put_details(out, t, report, number);
-    text::put_all(out, u, b"\n")
-}
-
-// A line that ends in a number.
-fn put_counted(out: &mut [u8], at: usize, words: &[u8], n: u64) -> usize
-    requires { at ≤ length out.old }
-    ensures { Put out.old at ((words.now ++ (ascii " " ++ decimal n)) ++ ascii "\n") out.new result }
-{
-    let p = text::put_all(out, at, words);
-    let q = text::put_field(out, p, n);
-    text::put_all(out, q, b"\n")
+    let number = report[vm::REPORT_STOP] as u64;
+    w.put_words(b"end stopped", &[count, number]);
+    put_signed(w, lent::get_u64(report, vm::REPORT_LINE));
+    put_details(w, report, number);
+    w.put_all(b"\n");
 }
 
 // The end line of a report: answer, steps since start, and of a stop its number, line and details.
-pub fn put_end(out: &mut [u8], at: usize, report: &[u8], count: u64) -> usize
-    requires { (at ≤ length out.old) × (48 ≤ length report.now) }
-    ensures { Put out.old at (end_in report.now count) out.new result }
+pub fn put_end(w: &mut Writer, report: &[u8], count: u64)
+    requires { 48 ≤ length report.now }
+    ensures { Appended w.old (end_in report.now count) w.new }
 {
-    let answer = lent::wide(report[0]);
-    if answer == 0 {
-        return put_counted(out, at, b"end done", count);
+    match report[0] {
+        0 => w.put_line(b"end done", &[count]),
+        1 => put_stop(w, report, count),
+        _ => w.put_line(b"end spent", &[count]),
     }
-    if answer == 1 {
-        return put_stop(out, at, report, count);
-    }
-    put_counted(out, at, b"end spent", count)
-}
-
-// The ones in a mark.
-fn ones(mark: u64) -> u64
-    ensures { result ≡ ones_in 64 mark }
-{
-    u64::count_ones(mark) as u64
 }
 
 // How many names are held: the ones in the state's mark.
-pub fn put_held(out: &mut [u8], at: usize, state: &[u8]) -> usize
-    requires { (at ≤ length out.old) × (47360 ≤ length state.now) }
-    ensures { Put out.old at (held_in state.now) out.new result }
+pub fn put_held(w: &mut Writer, state: &[u8])
+    requires { 47360 ≤ length state.now }
+    ensures { Appended w.old (held_in state.now) w.new }
 {
     let mark = lent::get_u64(state, stored::STATE_MARK);
-    put_counted(out, at, b"held", ones(mark))
+    w.put_line(b"held", &[mark.count_ones() as u64]);
 }
 
 // The line of the name x, where it is held.
-fn put_name(out: &mut [u8], at: usize, state: &[u8], x: usize) -> usize
-    requires { (at ≤ length out.old) × (47360 ≤ length state.now) × (x < 64) }
-    ensures { Put out.old at (name_line x (decode_slot (part state.now (24576 + x * 256) 256))) out.new result }
+fn put_name(w: &mut Writer, state: &[u8], x: usize)
+    requires { (47360 ≤ length state.now) × (x < 64) }
+    ensures { Appended w.old (name_line x (decode_slot (part state.now (24576 + x * 256) 256))) w.new }
 {
     let from = stored::STATE_NAMES + x * sifv::VALUE_SIZE;
-    let kind = sifv::kind_of(sifv::get(state, from));
-    if kind == 0 {
-        return at;
+    if let SifVal::Empty = sifv::get(state, from) {
+        return;
     }
-    let p = text::put_all(out, at, b"name");
-    let q = text::put_field(out, p, x as u64);
-    let s = text::put_all(out, q, b" ");
-    let t = values::put_value(out, s, state, from);
-    text::put_all(out, t, b"\n")
+    w.put_words(b"name", &[x as u64]);
+    w.put_all(b" ");
+    values::put_value(w, state, from);
+    w.put_all(b"\n");
 }
 
 // The names that are held, ascending.
-pub fn put_names(out: &mut [u8], at: usize, state: &[u8]) -> usize
-    requires { (at ≤ length out.old) × (47360 ≤ length state.now) }
-    ensures { Put out.old at (names_in state.now) out.new result }
+pub fn put_names(w: &mut Writer, state: &[u8])
+    requires { 47360 ≤ length state.now }
+    ensures { Appended w.old (names_in state.now) w.new }
 {
-    let mut p = at;
-    let mut x = 0;
-    while x < lent::TEXTS {
-        p = put_name(out, p, state, x);
-        x += 1;
+    for x in 0..lent::TEXTS {
+        put_name(w, state, x);
     }
-    p
 }
 
 // What a run from start on left: the end, the count of names, the names.
-pub fn put_ran(out: &mut [u8], at: usize, state: &[u8], report: &[u8]) -> usize
-    requires { (at ≤ length out.old) × (47360 ≤ length state.now) × (48 ≤ length report.now) }
-    ensures { Put out.old at (ran_in state.now report.now) out.new result }
+pub fn put_ran(w: &mut Writer, state: &[u8], report: &[u8])
+    requires { (47360 ≤ length state.now) × (48 ≤ length report.now) }
+    ensures { Appended w.old (ran_in state.now report.now) w.new }
 {
-    let p = put_end(out, at, report, lent::get_u64(state, stored::STATE_COUNT));
-    let q = put_held(out, p, state);
-    put_names(out, q, state)
+    put_end(w, report, lent::get_u64(state, stored::STATE_COUNT));
+    put_held(w, state);
+    put_names(w, state);
 }

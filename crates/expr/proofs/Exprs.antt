@@ -1,7 +1,7 @@
 -- Expressions: a section for each function.
 use Prim.Native.Nat.{ℕ, suc, ◌+◌, ◌-◌, ◌*◌, ◌^◌, ◌≤◌, ◌<◌}
 use mathlib.Core.Path.{◌≡◌, refl, ap, sym, ◌∙◌}
-use mathlib.Core.Bool.{Bool, true, false, cond}
+use mathlib.Core.Bool.{Bool, true, false, cond, ◌||◌}
 use mathlib.Core.List.{List, [], ◌∷◌, ◌++◌, append_assoc}
 use native.Mathlib.Omega.{arith}
 use mir.Facts.{and_yes}
@@ -9,12 +9,12 @@ use lib.Dec.{eqb, ltb, ltb→lt}
 use lib.ListN.{length, length-drop, drop, get_or}
 use Rattle.lent.specs.Bytes.{be_value, part}
 use Rattle.lent.specs.laws.Numbers.{be_value_be_bytes}
-use Rattle.sifv.specs.Value.{One, Bl}
+use Rattle.sifv.specs.Value.{One}
 use Rattle.opc.specs.Op.{Op, Ldc, Binary, Unary, Upda, Call, FnStackPush, FnStackPop, instr}
 use Rattle.opc.specs.Record.{Fields, fields, field_bytes, bin_number, un_number}
 use Rattle.ast.specs.Node.{Kind, Node, node}
 use Rattle.ast.specs.Tree.{BinTok, Plus, Minus, Star, Slash, Percent, EqEq, LtEq, Lt, GtEq, Gt, AmpAmp, PipePipe, BangEq, UnTok, Bang, Negate}
-use Rattle.ast.specs.Tree.{Val, Text, Expr, Literal, Name, BinaryExpr, UnaryExpr, VarAssign, ArrayMut, FnCall, Rhs, Exprs, no_exprs, more_exprs}
+use Rattle.ast.specs.Tree.{Val, Expr, Literal, Name, BinaryExpr, UnaryExpr, VarAssign, ArrayMut, FnCall, Rhs, Exprs, no_exprs, more_exprs}
 use Rattle.ast.specs.Flat as Flat
 use Rattle.ast.specs.Flat.{flat_expr, flat_exprs, expr_count, entry_bytes, body_bytes}
 use Rattle.ast.specs.Limits.{every_expr, every_exprs}
@@ -24,6 +24,7 @@ use Rattle.compiler.proofs.laws.Accepted.{regs_in}
 use Rattle.emit.specs.declared.Low.{Low}
 use Rattle.emit.specs.declared.Done.{Done}
 use Rattle.emit.specs.inner.Run.{kept, after_events, wrote, Ready, Did, PushesOp, Loads}
+use Rattle.emit.specs.inner.Literals.{lit_size, value_at}
 use Rattle.emit.specs.inner.Made.{Spells, Made, bin_code, Part, At, Reads, Front, ReadsAt, Goes}
 use Rattle.emit.specs.laws.Laws.{did_if, refused_stays, some_place}
 use Rattle.emit.specs.laws.Spell.{entries_both, bodies_both, expr_size, from, in_node, fits_nodes, fits_bodies, first, second_from, first_body}
@@ -31,7 +32,7 @@ use Rattle.emit.specs.laws.Regs.{regs_append, before_regs, arg_regs_lem, expr_re
 use Rattle.emit.specs.laws.Places.{made_as, made_start, made_ready, made_reg, made_push, made_load, made_reads, made_goes, goes_unrefused, at_from, reads_from, at_within}
 use Rattle.expr.specs.inner.Parts.{exprs, args, operands, stored_parts, rights, param_parts}
 use Rattle.expr.proofs.Views.{EKind, kmut, kcall, kasg, kbin, kun, kval, ktext, kname, ktrue, kfalse, as_kind, of_kind, expr_room}
-use Rattle.expr.proofs.Views.{only_mut, only_call, only_asg, only_bin, only_un, only_val, only_text, only_name, only_true, only_false}
+use Rattle.expr.proofs.Views.{only_mut, only_call, only_asg, only_bin, only_un, only_val, only_text, only_name}
 
 bin_number_lem : (t : BinTok) → bin_code (Flat.bin_tok_number t) ≡ bin_number (bin_kind t)
 bin_number_lem Plus = refl
@@ -496,60 +497,78 @@ module _ {c b : List ℕ} {k : Bool} {n : ℕ} {s : Low} {buf : List ℕ} {d : D
   pub un_front : get_or c 0 0 ≡ 18 → ((t : UnTok) (x : Expr) → At exprs (UnaryExpr t x) c b → Makes exprs (UnaryExpr t x) k n s buf d buf') → Front exprs c b k n s buf d buf'
   un_front q f = record { front = λ e h. only_un (λ e. At exprs e c b → Makes exprs e k n s buf d buf') f (as_kind h q) h }
 
-  pub num_front : get_or c 0 0 ≡ 19
-      → ((x : ℕ) → x ≡ be_value (part b 0 8) → (w : Place) → k ≡ kept s.decls w.section → Made (lower_expr (Literal (Val x)) w n s.reg) 2 8 n s buf d buf') → Front exprs c b k n s buf d buf'
-  num_front q f = record { front = λ e h. only_val (λ e. At exprs e c b → Makes exprs e k n s buf d buf') (λ x a w kw. f x (num_read a) w kw) (as_kind h q) h }
-
-  pub text_front : get_or c 0 0 ≡ 20
-      → ((x : ℕ) → x ≡ get_or b 0 0 → (w : Place) → k ≡ kept s.decls w.section → Made (lower_expr (Literal (Text x)) w n s.reg) 2 1 n s buf d buf') → Front exprs c b k n s buf d buf'
-  text_front q f = record { front = λ e h. only_text (λ e. At exprs e c b → Makes exprs e k n s buf d buf') (λ x a w kw. f x (sym (first_body a.spells)) w kw) (as_kind h q) h }
+  pub lit_front : (eqb (get_or c 0 0) 19 || eqb (get_or c 0 0) 20) ≡ true
+      → ((w : Place) → k ≡ kept s.decls w.section → Made (load w n (Ldc s.reg (One (value_at (get_or c 0 0) b 0)))) 2 (lit_size (get_or c 0 0)) n s buf d buf') → Front exprs c b k n s buf d buf'
+  lit_front q f = record { front = λ e h. by (of_kind h) q f h }
+    where
+      by : {m : ℕ} {e : Expr} → EKind m e → (eqb m 19 || eqb m 20) ≡ true → ((w : Place) → k ≡ kept s.decls w.section → Made (load w n (Ldc s.reg (One (value_at m b 0)))) 2 (lit_size m) n s buf d buf')
+          → At exprs e c b → Makes exprs e k n s buf d buf'
+      by kmut q f h = cc
+      by kcall q f h = cc
+      by kasg q f h = cc
+      by kbin q f h = cc
+      by kun q f h = cc
+      by kval q f h = λ w kw. rw (← num_read h) at (f w kw)
+      by ktext q f h = λ w kw. rw (first_body h.spells) at (f w kw)
+      by kname q f h = cc
+      by ktrue q f h = cc
+      by kfalse q f h = cc
 
   pub name_front : get_or c 0 0 ≡ 21
       → ((x : ℕ) → x ≡ get_or b 0 0 → (w : Place) → k ≡ kept s.decls w.section → Made (lower_expr (Name x) w n s.reg) 2 1 n s buf d buf') → Front exprs c b k n s buf d buf'
   name_front q f = record { front = λ e h. only_name (λ e. At exprs e c b → Makes exprs e k n s buf d buf') (λ x a w kw. f x (sym (first_body a.spells)) w kw) (as_kind h q) h }
 
   -- True and False in `binarg`
-  pub true_front : get_or c 0 0 ≡ 22
-      → ((v : Bool) → ◌≡◌ {A = ℕ} 1 (cond v 1 0) → (w : Place) → k ≡ kept s.decls w.section → Made (load w n (Ldc s.reg (One (Bl v)))) 2 0 n s buf d buf') → Front args c b k n s buf d buf'
-  true_front q f = record { front = λ e h. only_true (λ e. Makes args e k n s buf d buf') (λ w kw. f true refl w kw) (as_kind (of_arg h) q) }
-
-  pub false_front : get_or c 0 0 ≡ 23
-      → ((v : Bool) → ◌≡◌ {A = ℕ} 0 (cond v 1 0) → (w : Place) → k ≡ kept s.decls w.section → Made (load w n (Ldc s.reg (One (Bl v)))) 2 0 n s buf d buf') → Front args c b k n s buf d buf'
-  false_front q f = record { front = λ e h. only_false (λ e. Makes args e k n s buf d buf') (λ w kw. f false refl w kw) (as_kind (of_arg h) q) }
+  pub truth_front : (eqb (get_or c 0 0) 22 || eqb (get_or c 0 0) 23) ≡ true
+      → ((w : Place) → k ≡ kept s.decls w.section → Made (load w n (Ldc s.reg (One (value_at (get_or c 0 0) b 0)))) 2 (lit_size (get_or c 0 0)) n s buf d buf') → Front args c b k n s buf d buf'
+  truth_front q f = record { front = λ e h. by (of_kind (of_arg h)) q f }
+    where
+      by : {m : ℕ} {e : Expr} → EKind m e → (eqb m 22 || eqb m 23) ≡ true → ((w : Place) → k ≡ kept s.decls w.section → Made (load w n (Ldc s.reg (One (value_at m b 0)))) 2 (lit_size m) n s buf d buf')
+          → Makes args e k n s buf d buf'
+      by kmut q f = cc
+      by kcall q f = cc
+      by kasg q f = cc
+      by kbin q f = cc
+      by kun q f = cc
+      by kval q f = cc
+      by ktext q f = cc
+      by kname q f = cc
+      by ktrue q f = f
+      by kfalse q f = f
 
   -- another kind in `binarg`: as in `expr`
-  pub arg_front : (get_or c 0 0 ≡ 22 → ⊥) → (get_or c 0 0 ≡ 23 → ⊥) → Front exprs c b k n s buf d buf' → Front args c b k n s buf d buf'
-  arg_front f g m = record { front = λ e h. other (of_kind (of_arg h)) f g (m.front e (of_arg h)) }
+  pub arg_front : (eqb (get_or c 0 0) 22 || eqb (get_or c 0 0) 23) ≡ false → Front exprs c b k n s buf d buf' → Front args c b k n s buf d buf'
+  arg_front q m = record { front = λ e h. other (of_kind (of_arg h)) q (m.front e (of_arg h)) }
     where
-      other : {j : ℕ} {e : Expr} → EKind j e → (j ≡ 22 → ⊥) → (j ≡ 23 → ⊥) → Makes exprs e k n s buf d buf' → Makes args e k n s buf d buf'
-      other kmut f g m = m
-      other kcall f g m = m
-      other kasg f g m = m
-      other kbin f g m = m
-      other kun f g m = m
-      other kval f g m = m
-      other ktext f g m = m
-      other kname f g m = m
-      other ktrue f g m = absurd (f refl)
-      other kfalse f g m = absurd (g refl)
+      other : {j : ℕ} {e : Expr} → EKind j e → (eqb j 22 || eqb j 23) ≡ false → Makes exprs e k n s buf d buf' → Makes args e k n s buf d buf'
+      other kmut q m = m
+      other kcall q m = m
+      other kasg q m = m
+      other kbin q m = m
+      other kun q m = m
+      other kval q m = m
+      other ktext q m = m
+      other kname q m = m
+      other ktrue q m = cc
+      other kfalse q m = cc
 
 -- True and False in `expr`: nothing
 none_made : {n : ℕ} {s : Low} {buf : List ℕ} {d : Done} → d ≡ record { cont = 2; body = 0; lbl = n; low = s } → (w : Place) → Made [] 2 0 n s buf d buf
 none_made e w = made_start e
 
 module _ {c b : List ℕ} {k : Bool} {n : ℕ} {s : Low} {buf : List ℕ} {d : Done} (e₀ : d ≡ record { cont = 2; body = 0; lbl = n; low = s }) where
-  pub none_front : (get_or c 0 0 ≡ 14 → ⊥) → (get_or c 0 0 ≡ 15 → ⊥) → (get_or c 0 0 ≡ 16 → ⊥) → (get_or c 0 0 ≡ 17 → ⊥) → (get_or c 0 0 ≡ 18 → ⊥) → (get_or c 0 0 ≡ 19 → ⊥) → (get_or c 0 0 ≡ 20 → ⊥) → (get_or c 0 0 ≡ 21 → ⊥)
+  pub none_front : (get_or c 0 0 ≡ 14 → ⊥) → (get_or c 0 0 ≡ 15 → ⊥) → (get_or c 0 0 ≡ 16 → ⊥) → (get_or c 0 0 ≡ 17 → ⊥) → (get_or c 0 0 ≡ 18 → ⊥) → (eqb (get_or c 0 0) 19 || eqb (get_or c 0 0) 20) ≡ false → (get_or c 0 0 ≡ 21 → ⊥)
       → Front exprs c b k n s buf d buf
-  none_front f₁ f₂ f₃ f₄ f₅ f₆ f₇ f₈ = record { front = λ e h. rest (of_kind h) f₁ f₂ f₃ f₄ f₅ f₆ f₇ f₈ }
+  none_front f₁ f₂ f₃ f₄ f₅ f₆ f₇ = record { front = λ e h. rest (of_kind h) f₁ f₂ f₃ f₄ f₅ f₆ f₇ }
     where
-      rest : {m : ℕ} {e : Expr} → EKind m e → (m ≡ 14 → ⊥) → (m ≡ 15 → ⊥) → (m ≡ 16 → ⊥) → (m ≡ 17 → ⊥) → (m ≡ 18 → ⊥) → (m ≡ 19 → ⊥) → (m ≡ 20 → ⊥) → (m ≡ 21 → ⊥) → Makes exprs e k n s buf d buf
-      rest kmut f₁ f₂ f₃ f₄ f₅ f₆ f₇ f₈ = absurd (f₁ refl)
-      rest kcall f₁ f₂ f₃ f₄ f₅ f₆ f₇ f₈ = absurd (f₂ refl)
-      rest kasg f₁ f₂ f₃ f₄ f₅ f₆ f₇ f₈ = absurd (f₃ refl)
-      rest kbin f₁ f₂ f₃ f₄ f₅ f₆ f₇ f₈ = absurd (f₄ refl)
-      rest kun f₁ f₂ f₃ f₄ f₅ f₆ f₇ f₈ = absurd (f₅ refl)
-      rest kval f₁ f₂ f₃ f₄ f₅ f₆ f₇ f₈ = absurd (f₆ refl)
-      rest ktext f₁ f₂ f₃ f₄ f₅ f₆ f₇ f₈ = absurd (f₇ refl)
-      rest kname f₁ f₂ f₃ f₄ f₅ f₆ f₇ f₈ = absurd (f₈ refl)
-      rest ktrue f₁ f₂ f₃ f₄ f₅ f₆ f₇ f₈ = λ w kw. none_made e₀ w
-      rest kfalse f₁ f₂ f₃ f₄ f₅ f₆ f₇ f₈ = λ w kw. none_made e₀ w
+      rest : {m : ℕ} {e : Expr} → EKind m e → (m ≡ 14 → ⊥) → (m ≡ 15 → ⊥) → (m ≡ 16 → ⊥) → (m ≡ 17 → ⊥) → (m ≡ 18 → ⊥) → (eqb m 19 || eqb m 20) ≡ false → (m ≡ 21 → ⊥) → Makes exprs e k n s buf d buf
+      rest kmut f₁ f₂ f₃ f₄ f₅ f₆ f₇ = absurd (f₁ refl)
+      rest kcall f₁ f₂ f₃ f₄ f₅ f₆ f₇ = absurd (f₂ refl)
+      rest kasg f₁ f₂ f₃ f₄ f₅ f₆ f₇ = absurd (f₃ refl)
+      rest kbin f₁ f₂ f₃ f₄ f₅ f₆ f₇ = absurd (f₄ refl)
+      rest kun f₁ f₂ f₃ f₄ f₅ f₆ f₇ = absurd (f₅ refl)
+      rest kval f₁ f₂ f₃ f₄ f₅ f₆ f₇ = cc
+      rest ktext f₁ f₂ f₃ f₄ f₅ f₆ f₇ = cc
+      rest kname f₁ f₂ f₃ f₄ f₅ f₆ f₇ = absurd (f₇ refl)
+      rest ktrue f₁ f₂ f₃ f₄ f₅ f₆ f₇ = λ w kw. none_made e₀ w
+      rest kfalse f₁ f₂ f₃ f₄ f₅ f₆ f₇ = λ w kw. none_made e₀ w

@@ -1,27 +1,26 @@
 -- Right sides: a section for each function.
 use Prim.Native.Nat.{ℕ, suc, ◌+◌, ◌^◌, ◌≤◌, ◌<◌}
 use mathlib.Core.Path.{◌≡◌, refl, ap, sym, ◌∙◌}
-use mathlib.Core.Bool.{Bool, true, false}
+use mathlib.Core.Bool.{Bool, true}
 use mathlib.Core.List.{List, [], ◌∷◌, ◌++◌, append_assoc}
 use native.Mathlib.Omega.{arith}
 use mir.Facts.{and_yes}
-use lib.Dec.{ltb, eqb}
+use lib.Dec.{ltb}
 use lib.ListN.{length, length-drop, drop, get_or}
 use lib.Seq.{drop-drop, get_or-drop}
-use Rattle.lent.specs.Bytes.{be_value, part}
-use Rattle.sifv.specs.Value.{One, Bl, Tab}
+use Rattle.sifv.specs.Value.{One, Tab}
 use Rattle.opc.specs.Op.{Op, Stc, Stn, Str, Ldav, Tbli, instr}
 use Rattle.opc.specs.Record.{Fields, fields, field_bytes}
-use Rattle.ast.specs.Tree.{Lit, Val, Text, Expr, Expression, Table, Array, ArrayAccess, Items, no_items, more_items}
+use Rattle.ast.specs.Tree.{Lit, Expr, Expression, Table, Array, ArrayAccess, Items, no_items, more_items}
 use Rattle.ast.specs.Structure.{item_count}
 use Rattle.ast.specs.Flat.{flat_expr, flat_items, entry_bytes, body_bytes}
 use Rattle.ast.specs.Limits.{every_expr, every_items}
-use Rattle.compiler.specs.Literals.{literal}
 use Rattle.compiler.specs.Lower.{Place, prev, push, load, expr_regs, lower_expr, lower_items}
 use Rattle.compiler.proofs.laws.Accepted.{regs_in}
 use Rattle.emit.specs.declared.Low.{Low}
 use Rattle.emit.specs.declared.Done.{Done}
 use Rattle.emit.specs.inner.Run.{kept, Ready, PushesOp, Loads}
+use Rattle.emit.specs.inner.Literals.{lit_size, value_at}
 use Rattle.emit.specs.inner.Made.{Spells, Made, Part, At, Reads, Front, ReadsAt, Goes}
 use Rattle.emit.specs.laws.Laws.{some_place}
 use Rattle.emit.specs.laws.Spell.{entries_both, bodies_both, in_node, fits_nodes, fits_bodies, first, second_from, first_body}
@@ -29,7 +28,7 @@ use Rattle.emit.specs.laws.Regs.{regs_append, expr_regs_lem}
 use Rattle.emit.specs.laws.Places.{made_as, made_start, made_ready, made_reg, made_push, made_load, made_reads, made_goes}
 use Rattle.expr.specs.inner.Parts.{exprs, stored_parts, rights, item_parts}
 use Rattle.expr.proofs.Views.{EKind, kmut, kcall, kasg, kbin, kun, kval, ktext, kname, ktrue, kfalse, as_right, of_right, right_room}
-use Rattle.expr.proofs.Views.{only_val, only_text, only_name, only_tab, only_arr, only_acc, only_exp, only_rest}
+use Rattle.expr.proofs.Views.{only_name, only_tab, only_arr, only_acc, only_exp, only_rest}
 use Rattle.expr.proofs.Exprs.{E, B, Makes, first_count, of_stored, Child, one_of, one_made, num_read}
 
 abbrev fit : Expr → Bool
@@ -260,50 +259,42 @@ module _ {x : ℕ} {c b : List ℕ} {k : Bool} {n : ℕ} {s : Low} {buf : List �
   exp_front : {m : ℕ} → 14 ≤ m → get_or c 0 0 ≡ m → ((e : Expr) → EKind m e → At exprs e c b → Makes (rights x) (Expression e) k n s buf d buf') → Front (rights x) c b k n s buf d buf'
   exp_front l q f = record { front = λ r h. only_exp (λ r. At (rights x) r c b → Makes (rights x) r k n s buf d buf') l (λ e j a. f e j (as_expr a)) (as_right h q) h }
 
-  pub num_stores : get_or c 0 0 ≡ 19
-      → ((y : ℕ) → y ≡ be_value (part b 0 8) → (w : Place) → k ≡ kept s.decls w.section → Made (push w n (Stc (One (literal (Val y))) x) ∷ []) 2 8 n s buf d buf') → Front (rights x) c b k n s buf d buf'
-  num_stores q f = exp_front (omega arith) q (λ e j. only_val (λ e. At exprs e c b → Makes (rights x) (Expression e) k n s buf d buf') (λ y a w kw. f y (num_read a) w kw) j)
-
-  pub text_stores : get_or c 0 0 ≡ 20
-      → ((y : ℕ) → y ≡ get_or b 0 0 → (w : Place) → k ≡ kept s.decls w.section → Made (push w n (Stc (One (literal (Text y))) x) ∷ []) 2 1 n s buf d buf') → Front (rights x) c b k n s buf d buf'
-  text_stores q f = exp_front (omega arith) q (λ e j. only_text (λ e. At exprs e c b → Makes (rights x) (Expression e) k n s buf d buf') (λ y a w kw. f y (sym (first_body a.spells)) w kw) j)
-
   pub name_stores : get_or c 0 0 ≡ 21
       → ((y : ℕ) → y ≡ get_or b 0 0 → (w : Place) → k ≡ kept s.decls w.section → Made (push w n (Stn y x) ∷ []) 2 1 n s buf d buf') → Front (rights x) c b k n s buf d buf'
   name_stores q f = exp_front (omega arith) q (λ e j. only_name (λ e. At exprs e c b → Makes (rights x) (Expression e) k n s buf d buf') (λ y a w kw. f y (sym (first_body a.spells)) w kw) j)
 
-  pub bl_stores : 21 < get_or c 0 0
-      → ((t : Bool) → t ≡ eqb (get_or c 0 0) 22 → (w : Place) → k ≡ kept s.decls w.section → Made (push w n (Stc (One (Bl t)) x) ∷ []) 2 0 n s buf d buf') → Front (rights x) c b k n s buf d buf'
-  bl_stores l f = record { front = λ r h. only_exp (λ r. Makes (rights x) r k n s buf d buf') (omega (arith, l)) (λ e j. high j l f) (of_right h) }
+  pub lit_stores : (get_or c 0 0 ≡ 21 → ⊥) → 19 ≤ get_or c 0 0
+      → ((w : Place) → k ≡ kept s.decls w.section → Made (push w n (Stc (One (value_at (get_or c 0 0) b 0)) x) ∷ []) 2 (lit_size (get_or c 0 0)) n s buf d buf') → Front (rights x) c b k n s buf d buf'
+  lit_stores g l f = record { front = λ r h. only_exp (λ r. At (rights x) r c b → Makes (rights x) r k n s buf d buf') (omega (arith, l)) (λ e j a. by j g l f (as_expr a)) (of_right h) h }
     where
-      high : {m : ℕ} {e : Expr} → EKind m e → 21 < m → ((t : Bool) → t ≡ eqb m 22 → (w : Place) → k ≡ kept s.decls w.section → Made (push w n (Stc (One (Bl t)) x) ∷ []) 2 0 n s buf d buf')
-          → Makes (rights x) (Expression e) k n s buf d buf'
-      high kmut l f = absurd (omega (arith, l))
-      high kcall l f = absurd (omega (arith, l))
-      high kasg l f = absurd (omega (arith, l))
-      high kbin l f = absurd (omega (arith, l))
-      high kun l f = absurd (omega (arith, l))
-      high kval l f = absurd (omega (arith, l))
-      high ktext l f = absurd (omega (arith, l))
-      high kname l f = absurd (omega (arith, l))
-      high ktrue l f = f true refl
-      high kfalse l f = f false refl
+      by : {m : ℕ} {e : Expr} → EKind m e → (m ≡ 21 → ⊥) → 19 ≤ m → ((w : Place) → k ≡ kept s.decls w.section → Made (push w n (Stc (One (value_at m b 0)) x) ∷ []) 2 (lit_size m) n s buf d buf')
+          → At exprs e c b → Makes (rights x) (Expression e) k n s buf d buf'
+      by kmut g l f h = absurd (omega (arith, l))
+      by kcall g l f h = absurd (omega (arith, l))
+      by kasg g l f h = absurd (omega (arith, l))
+      by kbin g l f h = absurd (omega (arith, l))
+      by kun g l f h = absurd (omega (arith, l))
+      by kval g l f h = λ w kw. rw (← num_read h) at (f w kw)
+      by ktext g l f h = λ w kw. rw (first_body h.spells) at (f w kw)
+      by kname g l f h = absurd (g refl)
+      by ktrue g l f h = f
+      by kfalse g l f h = f
 
-  pub expr_stores : (get_or c 0 0 ≡ 10 → ⊥) → (get_or c 0 0 ≡ 12 → ⊥) → (get_or c 0 0 ≡ 13 → ⊥) → (get_or c 0 0 ≡ 19 → ⊥) → (get_or c 0 0 ≡ 20 → ⊥) → (get_or c 0 0 ≡ 21 → ⊥) → get_or c 0 0 ≤ 21
+  pub expr_stores : (get_or c 0 0 ≡ 10 → ⊥) → (get_or c 0 0 ≡ 12 → ⊥) → (get_or c 0 0 ≡ 13 → ⊥) → get_or c 0 0 < 19
       → Front (stored_parts x) c b k n s buf d buf' → Front (rights x) c b k n s buf d buf'
-  expr_stores f₁ f₂ f₃ f₄ f₅ f₆ l g = record {
+  expr_stores f₁ f₂ f₃ l g = record {
     front = λ r h. only_rest (λ r. At (rights x) r c b → Makes (rights x) r k n s buf d buf') f₁ f₂ f₃
-        (λ e j a. other j f₄ f₅ f₆ l (g.front e (record { spells = a.spells; ok = a.ok }))) (of_right h) h;
+        (λ e j a. other j l (g.front e (record { spells = a.spells; ok = a.ok }))) (of_right h) h;
   }
     where
-      other : {m : ℕ} {e : Expr} → EKind m e → (m ≡ 19 → ⊥) → (m ≡ 20 → ⊥) → (m ≡ 21 → ⊥) → m ≤ 21 → Makes (stored_parts x) e k n s buf d buf' → Makes (rights x) (Expression e) k n s buf d buf'
-      other kmut a b c l f = f
-      other kcall a b c l f = f
-      other kasg a b c l f = f
-      other kbin a b c l f = f
-      other kun a b c l f = f
-      other kval a b c l f = absurd (a refl)
-      other ktext a b c l f = absurd (b refl)
-      other kname a b c l f = absurd (c refl)
-      other ktrue a b c l f = absurd (omega (arith, l))
-      other kfalse a b c l f = absurd (omega (arith, l))
+      other : {m : ℕ} {e : Expr} → EKind m e → m < 19 → Makes (stored_parts x) e k n s buf d buf' → Makes (rights x) (Expression e) k n s buf d buf'
+      other kmut l f = f
+      other kcall l f = f
+      other kasg l f = f
+      other kbin l f = f
+      other kun l f = f
+      other kval l f = absurd (omega (arith, l))
+      other ktext l f = absurd (omega (arith, l))
+      other kname l f = absurd (omega (arith, l))
+      other ktrue l f = absurd (omega (arith, l))
+      other kfalse l f = absurd (omega (arith, l))

@@ -2,40 +2,13 @@
 ghost use Rattle.std.specs.Prelude.{◌≡◌, true, cond, List, ◌+◌, ◌*◌, ◌≤◌, ◌<◌, ltb, length, drop, get_or};
 ghost use Rattle.lent.specs.Bytes.{splice};
 ghost use Rattle.sifv.specs.inner.Seen.{single_seen};
-ghost use Rattle.opc.specs.Record.{item_bytes, field_bytes, fields};
+ghost use Rattle.opc.specs.Record.{item_bytes, fields};
 ghost use Rattle.opc.specs.inner.Fetch.{fields_told};
 ghost use Rattle.ast.specs.Tree.{Lit};
 ghost use Rattle.ast.specs.Flat.{flat_lits, body_bytes};
-ghost use Rattle.emit.specs.inner.Run.{Ready};
 ghost use Rattle.emit.specs.inner.Made.{Reads, Front};
 ghost use Rattle.expr.specs.inner.Parts.{rights};
-ghost use Rattle.expr.specs.inner.Arrays.{lit_size, value_at, items_bytes, Lits, PushesItems};
-
-// The value of a literal's node, whose body begins at `at`.
-fn val_from_primary(kind: u8, bodies: &[u8], at: usize) -> sifv::SifVal
-    requires { (kind ≡ 19 → at + 8 ≤ length bodies.now) × (kind ≡ 20 → at < length bodies.now) }
-    ensures { single_seen result ≡ value_at kind bodies.now at }
-{
-    if kind == ast::KIND_NUM {
-        return sifv::SifVal::Num(numeric::from_bits(lent::get_u64(bodies, at)));
-    }
-    if kind == ast::KIND_TEXT {
-        return sifv::SifVal::Str(lent::wide(bodies[at]));
-    }
-    sifv::SifVal::Bl(kind == ast::KIND_TRUE)
-}
-
-fn lit_size(kind: u8) -> usize
-    ensures { result ≡ lit_size kind }
-{
-    if kind == ast::KIND_NUM {
-        return sifv::NUMBER_SIZE;
-    }
-    if kind == ast::KIND_TEXT {
-        return 1;
-    }
-    0
-}
+ghost use Rattle.expr.specs.inner.Arrays.{items_bytes, Lits};
 
 // Entry k of the pool becomes v, where `keep`.
 fn keep_item(keep: bool, k: usize, v: sifv::SifVal, out: &mut [u8])
@@ -62,30 +35,13 @@ fn arrayitems(
     ensures { (ls : List Lit) → Lits n ls contents.now bodies.now → (result ≡ 1 + length (body_bytes (flat_lits ls))) × (out.new ≡ cond keep (splice out.old (16384 + 16 * k) (items_bytes ls)) out.old) }
 {
     let mut at = 1;
-    let mut i = 0;
-    while i < n {
+    for i in 0..n {
         let kind = contents[ast::NODE_SIZE + ast::NODE_SIZE * i];
-        let v = val_from_primary(kind, bodies, at);
+        let v = emit::literal_value(kind, bodies, at);
         keep_item(keep, k + i, v, out);
-        at += lit_size(kind);
-        i += 1;
+        at += emit::literal_size(kind);
     }
     at
-}
-
-// An instruction with n items: its record; the items are written by the caller, where a record was.
-fn push_items(keep: bool, low: emit::Low, f: opc::Fields, n: usize, out: &mut [u8]) -> emit::Low
-    requires { Ready low out.old × (n ≤ 1024) }
-    ensures { PushesItems keep low n (field_bytes (fields_told f)) out.old result out.new }
-{
-    if low.refused != 0 {
-        return low;
-    }
-    if emit::is_full(keep, low, n) {
-        return emit::refused(low, emit::SCRIPT_TOO_LARGE);
-    }
-    emit::keep_record(keep, low.recs as usize, f, out);
-    emit::count(keep, low, n)
 }
 
 fn array_fields(lbl: u64, name: u8, n: u8, items: usize) -> opc::Fields
@@ -121,7 +77,7 @@ pub fn arraydecl(
     let m = n as usize;
     let k = low.items as usize;
     let f = array_fields(lbl, bodies[0], n, k);
-    let q = push_items(keep, low, f, m, out);
+    let q = emit::push_items(keep, low, f, m, out);
     let end = arrayitems(m, contents, bodies, low.recs < q.recs, k, out);
     emit::start(ast::NODE_SIZE + ast::NODE_SIZE * m, end, lbl, q)
 }

@@ -37,11 +37,8 @@ pub fn expr(
     if kind == ast::KIND_UNARY {
         return unop(contents, bodies, keep, lbl, low, out);
     }
-    if kind == ast::KIND_NUM {
-        return emit::load_num(bodies, keep, lbl, low, out);
-    }
-    if kind == ast::KIND_TEXT {
-        return emit::load_text(bodies, keep, lbl, low, out);
+    if (kind == ast::KIND_NUM) | (kind == ast::KIND_TEXT) {
+        return emit::load_literal(kind, bodies, keep, lbl, low, out);
     }
     if kind == ast::KIND_NAME {
         return emit::load_name(bodies, keep, lbl, low, out);
@@ -113,11 +110,8 @@ fn binarg(
     ensures { Front args contents.now bodies.now keep lbl low out.old result out.new }
 {
     let kind = contents[0];
-    if kind == ast::KIND_TRUE {
-        return emit::load_bl(1, keep, lbl, low, out);
-    }
-    if kind == ast::KIND_FALSE {
-        return emit::load_bl(0, keep, lbl, low, out);
+    if (kind == ast::KIND_TRUE) | (kind == ast::KIND_FALSE) {
+        return emit::load_literal(kind, bodies, keep, lbl, low, out);
     }
     expr(contents, bodies, keep, lbl, low, out)
 }
@@ -211,8 +205,7 @@ fn params(
     ensures { Goes (param_parts n) contents.now bodies.now keep p out.old result out.new }
 {
     let mut q = p;
-    let mut more = n;
-    while 0 < more {
+    for _ in 0..n {
         let a = expr_at(contents, bodies, keep, q, out);
         let f = emit::fields_of(
             q.lbl,
@@ -224,7 +217,6 @@ fn params(
             0,
         );
         q = emit::push_at(keep, a, f, out);
-        more -= 1;
     }
     q
 }
@@ -294,17 +286,11 @@ fn assign(
     if kind == ast::KIND_ARRAY_ACCESS {
         return arrayaccess(x, contents, bodies, keep, lbl, low, out);
     }
-    if kind == ast::KIND_NUM {
-        return emit::put_num(x, bodies, keep, lbl, low, out);
-    }
-    if kind == ast::KIND_TEXT {
-        return emit::put_text(x, bodies, keep, lbl, low, out);
-    }
     if kind == ast::KIND_NAME {
         return emit::put_name(x, bodies, keep, lbl, low, out);
     }
-    if ast::KIND_NAME < kind {
-        return emit::put_bl(x, kind == ast::KIND_TRUE, keep, lbl, low, out);
+    if ast::KIND_NUM <= kind {
+        return emit::put_literal(x, kind, bodies, keep, lbl, low, out);
     }
     expr_assign(x, contents, bodies, keep, lbl, low, out)
 }
@@ -369,15 +355,13 @@ fn table_items(
     ensures { Goes (item_parts n x) contents.now bodies.now keep p out.old result out.new }
 {
     let mut q = p;
-    let mut more = n;
-    while 0 < more {
+    for _ in 0..n {
         let at = q.body;
         let key = bodies[at];
         let i = emit::pass(q, ast::NODE_SIZE, 1);
         let a = expr_at(contents, bodies, keep, i, out);
         let f = emit::fields_of(q.lbl, opc::OP_TBLI, 0, x, key, emit::prevreg(a.low), 0);
         q = emit::push_at(keep, a, f, out);
-        more -= 1;
     }
     q
 }

@@ -12,16 +12,13 @@ ghost use Rattle.numeric.specs.Index.{index_of};
 ghost use Rattle.numeric.specs.inner.OrMax.{or_max, has_index};
 ghost use Rattle.numeric.specs.inner.Patterns.{bits_of};
 
-use numeric::Index;
+use lent::refusal;
 
 #[unsafe(no_mangle)]
 pub extern "C" fn leaf_has_index(x: f64) -> bool
     ensures { result ≡ has_index (index_of x) }
 {
-    match numeric::index_of(x) {
-        Index::At(n) => true,
-        Index::None => false,
-    }
+    numeric::index_of(x).is_some()
 }
 
 // 2^64 - 1 where there is none.
@@ -29,10 +26,7 @@ pub extern "C" fn leaf_has_index(x: f64) -> bool
 pub extern "C" fn leaf_index_of(x: f64) -> u64
     ensures { result ≡ or_max (index_of x) }
 {
-    match numeric::index_of(x) {
-        Index::At(n) => n,
-        Index::None => 18446744073709551615,
-    }
+    numeric::index_of(x).unwrap_or(18446744073709551615)
 }
 
 #[unsafe(no_mangle)]
@@ -60,7 +54,7 @@ pub extern "C" fn leaf_modu(a: f64, b: f64) -> f64
 pub extern "C" fn leaf_read(file: &[u8]) -> u64
     ensures { result ≡ answer_of (read_tree file.now) }
 {
-    ast::read(file)
+    refusal::number_of(ast::read(file))
 }
 
 #[unsafe(no_mangle)]

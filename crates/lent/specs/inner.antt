@@ -1,2 +1,3 @@
 -- Definitions that only contracts inside the engine cite.
 pub mod Words
+pub mod Answers

@@ -8,3 +8,4 @@ pub mod Same
 pub mod Slots
 pub mod Truths
 pub mod Zeros
+pub mod Answers

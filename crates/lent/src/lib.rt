@@ -1,34 +1,11 @@
 // Bytes of lent buffers: big-endian numbers in them, copies, fills and comparisons.
 #![tactic(auto)]
 
+pub mod refusal;
+
 ghost use Rattle.std.specs.Prelude.{◌≡◌, ◌+◌, ◌*◌, ◌%◌, ◌≤◌, ◌<◌, eqb, length, get_or, replicate};
 ghost use Rattle.lent.specs.Bytes.{be_value, be_bytes, part, splice, same_bytes};
 ghost use Rattle.lent.specs.inner.Words.{le_value, four, eight};
-
-// The refusals: specs/Refusals.antt.
-pub const FILE_CUT: u64 = 1;
-
-pub const FILE_COUNTS: u64 = 2;
-
-pub const FILE_TEXTS: u64 = 3;
-
-pub const FILE_STRUCTURE: u64 = 4;
-
-pub const FILE_NUMBERS: u64 = 5;
-
-pub const NO_REGISTER: u64 = 6;
-
-pub const SCRIPT_TOO_LARGE: u64 = 7;
-
-pub const PROGRAM_REFUSED: u64 = 8;
-
-pub const BUFFER_TOO_SHORT: u64 = 9;
-
-pub const STATE_REFUSED: u64 = 10;
-
-pub const PROGRAM_FILE_REFUSED: u64 = 37;
-
-pub const NUMBER_NOT_FINITE: u64 = 39;
 
 // Limits of tree files, programs and values alike: texts, the items of an array and of a table.
 pub const TEXTS: usize = 64;
@@ -141,10 +118,8 @@ pub fn copy(d: &mut [u8], at: usize, s: &[u8])
     requires { at + length s.now ≤ length d.old }
     ensures { d.new ≡ splice d.old at s.now }
 {
-    let mut i = 0;
-    while i < s.len() {
+    for i in 0..s.len() {
         d[at + i] = s[i];
-        i += 1;
     }
 }
 
@@ -153,10 +128,8 @@ pub fn zero(d: &mut [u8], at: usize, n: usize)
     requires { at + n ≤ length d.old }
     ensures { d.new ≡ splice d.old at (replicate n 0) }
 {
-    let mut i = 0;
-    while i < n {
+    for i in 0..n {
         d[at + i] = 0;
-        i += 1;
     }
 }
 
@@ -166,10 +139,8 @@ pub fn clear(d: &mut [u8], n: usize)
     ensures { d.new ≡ splice d.old 0 (replicate n 0) }
 {
     let last = n - 136;
-    let mut i = 0;
-    while i < last {
+    for i in (0..last).step_by(128) {
         zero(d, i, 136);
-        i += 128;
     }
     zero(d, last, 136);
 }
@@ -180,12 +151,8 @@ pub fn same(a: &[u8], at: usize, b: &[u8], bt: usize, n: usize) -> bool
     ensures { result ≡ same_bytes (part a.now at n) (part b.now bt n) }
 {
     let mut ok = true;
-    let mut i = 0;
-    while i < n {
-        if a[at + i] != b[bt + i] {
-            ok = false;
-        }
-        i += 1;
+    for i in 0..n {
+        ok = ok & (a[at + i] == b[bt + i]);
     }
     ok
 }
@@ -196,10 +163,8 @@ fn bits(s: &[u8], at: usize, n: usize) -> u64
     ensures { eqb result 0 ≡ same_bytes (part s.now at (n * 8)) (replicate (n * 8) 0) }
 {
     let mut seen: u64 = 0;
-    let mut i = 0;
-    while i < n {
+    for i in 0..n {
         seen = seen | low8(s, at + i * 8);
-        i += 1;
     }
     seen
 }
@@ -210,12 +175,8 @@ fn each_zero(s: &[u8], at: usize, n: usize) -> bool
     ensures { result ≡ same_bytes (part s.now at n) (replicate n 0) }
 {
     let mut ok = true;
-    let mut i = 0;
-    while i < n {
-        if s[at + i] != 0 {
-            ok = false;
-        }
-        i += 1;
+    for i in 0..n {
+        ok = ok & (s[at + i] == 0);
     }
     ok
 }

@@ -24,9 +24,10 @@ use Rattle.boundary.specs.StartCall.{start_call}
 use Rattle.boundary.specs.RunCall.{ran_out, run_call}
 use Rattle.demand3.specs.laws.Accepting.{accepts}
 use Rattle.demand3.proofs.laws.ListLaws.{Holds, holds_over, run_answers}
-use Rattle.text.specs.Put.{Put}
-use Rattle.text.specs.laws.PutLaws.{put_as, put_within}
-use Rattle.text.specs.laws.Joined.{put_three}
+use Rattle.text.specs.declared.Writer.{Writer}
+use Rattle.text.specs.inner.Appended.{Appended}
+use Rattle.text.specs.laws.Writing.{appended_as}
+use Rattle.text.specs.laws.Joined.{appended_three}
 use Rattle.listing_text.specs.ProgramText.{program_text}
 use Rattle.listing_text.specs.Ending.{ran_text}
 use Rattle.ending.specs.laws.Left.{RunLeft}
@@ -107,19 +108,9 @@ pub program_of_lem : {file program state out : List ℕ} (m : Made file program 
 program_of_lem m = ap or_empty m.back
 
 -- the three texts, one after the other
-module _ {file program state told : List ℕ} (m : Made file program state told) {out out₁ out₂ : List ℕ} {r₁ r₂ : ℕ} (a : Put out 0 (program_text (program_in program)) out₁ r₁)
-    (b : (t : Stmts) (p : Program) → read_tree file ≡ Tree t → lower t ≡ lowered p → Put out₁ r₁ (bound_line (plain t) (bound t)) out₂ r₂) where
-  begun : 0 ≤ length out
-  begun = omega arith
-
-  first : Put out 0 (program_text m.made) out₁ r₁
-  first = put_as (ap program_text (sym (program_of_lem m))) a
-
-  second : Put out₁ r₁ (bound_line (plain m.tree) (bound m.tree)) out₂ r₂
-  second = b m.tree m.made m.reads m.lowers
-
-  pub bound_within : r₂ ≤ length out₂
-  bound_within = put_within (put_within begun first) second
-
-  pub listed : {out₃ : List ℕ} {r₃ : ℕ} → Put out₂ r₂ (ran_in state told) out₃ r₃ → Put out 0 (listing file) out₃ r₃
-  listed c = put_as (listing_made m) (put_three begun first second (put_as (sym (left_text m.left)) c))
+module _ {file program state told : List ℕ} (m : Made file program state told) {v w x y : Writer} (a : Appended v (program_text (program_in program)) w)
+    (b : (t : Stmts) (p : Program) → read_tree file ≡ Tree t → lower t ≡ lowered p → Appended w (bound_line (plain t) (bound t)) x) where
+  pub listed : Appended x (ran_in state told) y → Appended v (listing file) y
+  listed c =
+      appended_as (listing_made m)
+      (appended_three (appended_as (ap program_text (sym (program_of_lem m))) a) (b m.tree m.made m.reads m.lowers) (appended_as (sym (left_text m.left)) c))

@@ -11,55 +11,40 @@ ghost use Rattle.tables.specs.Tables.{Program};
 ghost use Rattle.compiler.specs.Lower.{lower, lowered};
 ghost use Rattle.walk.specs.Bound.{bound};
 ghost use Rattle.text.specs.Put.{Put};
-ghost use Rattle.listing_text.specs.Listing.{bound_line, refused_text, listing};
+ghost use Rattle.text.specs.inner.Appended.{Appended};
+ghost use Rattle.listing_text.specs.Listing.{bound_line, listing};
 
 use anyhow::Context;
 use std::io;
 use std::io::Read;
-
-fn put_refused(out: &mut [u8], at: usize, n: u64) -> usize
-    requires { at ≤ length out.old }
-    ensures { Put out.old at (refused_text n) out.new result }
-{
-    let p = text::put_all(out, at, b"refused ");
-    let q = text::put_decimal(out, p, n);
-    text::put_all(out, q, b"\n")
-}
+use text::Writer;
 
 // The bound, of a plain script.
-fn put_bound(out: &mut [u8], at: usize, file: &[u8]) -> usize
-    requires { at ≤ length out.old }
-    ensures { (t : Stmts) (p : Program) → read_tree file.now ≡ Tree t → lower t ≡ lowered p → Put out.old at (bound_line (plain t) (bound t)) out.new result }
+fn put_bound(w: &mut Writer, file: &[u8])
+    ensures { (t : Stmts) (p : Program) → read_tree file.now ≡ Tree t → lower t ≡ lowered p → Appended w.old (bound_line (plain t) (bound t)) w.new }
 {
     let n = bound::bound(file);
     if n == 0 {
-        return text::put_all(out, at, b"bound none\n");
+        w.put_all(b"bound none\n");
+    } else {
+        w.put_line(b"bound", &[n]);
     }
-    let p = text::put_all(out, at, b"bound ");
-    let q = text::put_decimal(out, p, n);
-    text::put_all(out, q, b"\n")
 }
 
 // The listing of a file, in buffers for its program, its state and the report of 100,000 steps.
-fn list(
-    file: &[u8],
-    program: &mut [u8],
-    state: &mut [u8],
-    report: &mut [u8],
-    out: &mut [u8],
-) -> usize
+fn list(w: &mut Writer, file: &[u8], program: &mut [u8], state: &mut [u8], report: &mut [u8])
     requires { (40960 ≤ length program.old) × (65536 ≤ length state.old) × (48 ≤ length report.old) }
-    ensures { Put out.old 0 (listing file.now) out.new result }
+    ensures { Appended w.old (listing file.now) w.new }
 {
-    let n = lower::lower(file, program);
-    if n != 0 {
-        return put_refused(out, 0, n);
+    if let Err(refusal) = lower::lower(file, program) {
+        w.put_line(b"refused", &[refusal.number()]);
+        return;
     }
-    let a = calls::start_call::start(program, state);
-    let b = calls::run_call::run(program, state, 100000, report);
-    let p = ops::put_program(out, 0, program);
-    let q = put_bound(out, p, file);
-    ending::put_ran(out, q, state, report)
+    let _ = calls::start_call::start(program, state);
+    let _ = calls::run_call::run(program, state, 100000, report);
+    ops::put_program(w, program);
+    put_bound(w, file);
+    ending::put_ran(w, state, report);
 }
 
 // The listing of a file, cut where the buffer ends.
@@ -69,18 +54,13 @@ fn listing(file: &[u8], out: &mut [u8]) -> usize
     let mut program = [0u8; tables::PROGRAM_SIZE];
     let mut state = [0u8; stored::STATE_SIZE];
     let mut report = [0u8; vm::REPORT_SIZE];
-    list(file, &mut program, &mut state, &mut report, out)
+    let mut w = Writer::new(out);
+    list(&mut w, file, &mut program, &mut state, &mut report);
+    w.place()
 }
 
-// The first k bytes to standard output.
-fn write(rt: &impl Print, out: &[u8], k: usize) -> io::Result<()> {
-    if k <= out.len() {
-        return rt.write_all(&out[0..k]);
-    }
-    Ok(())
-}
-
-// Reads until the buffer is full or the input ends, and answers how many bytes it put at the buffer's start.
+// Reads until the buffer is full or the input ends, and answers how many bytes it put at the buffer's start. Each turn
+// goes on by what a read gave.
 fn read_full<R: Read>(from: &mut R, buffer: &mut [u8]) -> io::Result<usize>
     ensures within { ReadsAtMost result buffer.new }
     ensures bytes { IfOk result (λ n. Consumes (R.remaining from.old) (R.remaining from.new) (take n buffer.new)) }
@@ -111,6 +91,6 @@ fn main(rt: HostRuntime) -> anyhow::Result<()> {
     let n = read_full(&mut input, &mut file).context("listing: cannot read")?;
     reads_on(&mut input).context("listing: cannot read")?;
     let k = listing(&file[..n], &mut out);
-    write(&rt, &out, k).context("listing: cannot write")?;
+    rt.write_all(&out[..k]).context("listing: cannot write")?;
     Ok(())
 }

@@ -9,9 +9,16 @@ ghost use Rattle.ast.specs.Tree.{Stmts};
 ghost use Rattle.ast.specs.File.{Tree, read_tree};
 ghost use Rattle.ast.specs.inner.Answer.{answer_of};
 ghost use Rattle.lent.specs.Answered.{answered};
+ghost use Rattle.lent.specs.inner.Answers.{answer_number};
+ghost use Rattle.compiler.specs.Lower.{Event, refusal};
 ghost use Rattle.boundary.specs.LowerCall.{lower_call};
 ghost use Rattle.lower.specs.inner.Compile.{Spelt, Cleared, Compiled, finished};
 ghost use Rattle.lent.specs.Lists.{zeros};
+
+use lent::refusal::Refusal;
+
+// 6 as a pass has it.
+const NO_REGISTER: u16 = Refusal::NoRegister as u16;
 
 // The tables of the n records, their count and the code start.
 fn finish(program: &mut [u8], n: usize, start: usize)
@@ -26,20 +33,27 @@ fn finish(program: &mut [u8], n: usize, start: usize)
 
 // Whether a node declares a function.
 fn declares(entries: &[u8]) -> bool {
-    let mut found = false;
-    let mut i = 0;
-    while i < entries.len() {
-        found = found | (entries[i] == ast::KIND_FN_DECL);
-        i += ast::NODE_SIZE;
+    entries
+        .chunks_exact(ast::NODE_SIZE)
+        .any(|node| node[0] == ast::KIND_FN_DECL)
+}
+
+// What a pass left as refused: 0 for nothing, or 6 or 7.
+fn passed(refused: u16) -> Result<(), Refusal>
+    ensures { (es : List Event) (r k : ℕ) → refused ≡ refusal es r k → answer_number result ≡ refused }
+{
+    match refused {
+        0 => Ok(()),
+        NO_REGISTER => Err(Refusal::NoRegister),
+        _ => Err(Refusal::ScriptTooLarge),
     }
-    found
 }
 
 // A tree with declarations: the first pass writes them and gives every refusal, the second writes the code.
-fn compile_both(entries: &[u8], bodies: &[u8], program: &mut [u8]) -> u64
+fn compile_both(entries: &[u8], bodies: &[u8], program: &mut [u8]) -> Result<(), Refusal>
     requires spelt { (t : Stmts) × Spelt t entries.now bodies.now }
     requires by_index { (rest : List ℕ) × Cleared rest program.old }
-    ensures { (t : Stmts) (rest : List ℕ) → Spelt t entries.now bodies.now → Cleared rest program.old → Compiled t rest result program.new }
+    ensures { (t : Stmts) (rest : List ℕ) → Spelt t entries.now bodies.now → Cleared rest program.old → Compiled t rest (answer_number result) program.new }
 {
     let decls = emit::Low {
         reg: 0,
@@ -50,9 +64,7 @@ fn compile_both(entries: &[u8], bodies: &[u8], program: &mut [u8]) -> u64
         refused: 0,
     };
     let d = stmt::lower_tree(entries, bodies, decls, program);
-    if d.refused != 0 {
-        return d.refused as u64;
-    }
+    passed(d.refused)?;
     let code = emit::Low {
         reg: 0,
         decls: false,
@@ -63,15 +75,15 @@ fn compile_both(entries: &[u8], bodies: &[u8], program: &mut [u8]) -> u64
     };
     let c = stmt::lower_tree(entries, bodies, code, program);
     finish(program, c.recs as usize, d.recs as usize);
-    0
+    Ok(())
 }
 
-// The program of a tree in a buffer of zeros: 0, or 6 or 7. Where all instructions are code, one pass writes them; where a
+// The program of a tree in a buffer of zeros, or 6 or 7. Where all instructions are code, one pass writes them; where a
 // function is declared, two.
-fn compile(entries: &[u8], bodies: &[u8], program: &mut [u8]) -> u64
+fn compile(entries: &[u8], bodies: &[u8], program: &mut [u8]) -> Result<(), Refusal>
     requires spelt { (t : Stmts) × Spelt t entries.now bodies.now }
     requires by_index { (rest : List ℕ) × Cleared rest program.old }
-    ensures { (t : Stmts) (rest : List ℕ) → Spelt t entries.now bodies.now → Cleared rest program.old → Compiled t rest result program.new }
+    ensures { (t : Stmts) (rest : List ℕ) → Spelt t entries.now bodies.now → Cleared rest program.old → Compiled t rest (answer_number result) program.new }
 {
     if declares(entries) {
         return compile_both(entries, bodies, program);
@@ -85,22 +97,20 @@ fn compile(entries: &[u8], bodies: &[u8], program: &mut [u8]) -> u64
         refused: 0,
     };
     let c = stmt::lower_tree(entries, bodies, alone, program);
-    if c.refused != 0 {
-        return c.refused as u64;
-    }
+    passed(c.refused)?;
     if c.recs == c.count {
         finish(program, c.recs as usize, 0);
-        return 0;
+        return Ok(());
     }
     lent::clear(program, tables::PROGRAM_SIZE);
     compile_both(entries, bodies, program)
 }
 
 // A file that holds a tree: its entries and its nodes' bodies are lowered.
-fn lower_read(file: &[u8], program: &mut [u8]) -> u64
+fn lower_read(file: &[u8], program: &mut [u8]) -> Result<(), Refusal>
     requires file_value { answer_of (read_tree file.now) ≡ 0 }
     requires by_index { (rest : List ℕ) × Cleared rest program.old }
-    ensures { (t : Stmts) (rest : List ℕ) → read_tree file.now ≡ Tree t → Cleared rest program.old → Compiled t rest result program.new }
+    ensures { (t : Stmts) (rest : List ℕ) → read_tree file.now ≡ Tree t → Cleared rest program.old → Compiled t rest (answer_number result) program.new }
 {
     let first = ast::FILE_LENGTHS + file[ast::FILE_TEXT_COUNT] as usize;
     let size = first + ast::NODE_SIZE * (lent::get_u16(file, 0) as usize);
@@ -108,22 +118,18 @@ fn lower_read(file: &[u8], program: &mut [u8]) -> u64
     compile(&file[first..size], &file[size + total..], program)
 }
 
-// The number of the first refusal, or 0 and the file's program in the buffer.
-pub fn lower(file: &[u8], program: &mut [u8]) -> u64
-    ensures { answered result program.new ≡ lower_call file.now program.old }
+// The first refusal, or none and the file's program in the buffer.
+pub fn lower(file: &[u8], program: &mut [u8]) -> Result<(), Refusal>
+    ensures { answered (answer_number result) program.new ≡ lower_call file.now program.old }
 {
     if program.len() < tables::PROGRAM_SIZE {
-        return lent::BUFFER_TOO_SHORT;
+        return Err(Refusal::BufferTooShort);
     }
     lent::clear(program, tables::PROGRAM_SIZE);
-    let n = ast::read(file);
-    if n != 0 {
-        return n;
-    }
-    let r = lower_read(file, program);
-    if r != 0 {
+    ast::read(file)?;
+    if let Err(refusal) = lower_read(file, program) {
         lent::clear(program, tables::PROGRAM_SIZE);
-        return r;
+        return Err(refusal);
     }
-    0
+    Ok(())
 }

@@ -63,20 +63,14 @@ pub fn index_or_max(x: f64) -> u64
 }
 
 // The index from a number: a whole number from 0 up to below 2^64, or none.
-#[derive(Clone, Copy)]
-pub enum Index {
-    At(u64),
-    None,
-}
-
-pub fn index_of(x: f64) -> Index
+pub fn index_of(x: f64) -> Option<u64>
     ensures { result ≡ index_told (index_of x) }
 {
     let n = index_or_max(x);
     if n == NO_INDEX {
-        return Index::None;
+        return None;
     }
-    Index::At(n)
+    Some(n)
 }
 
 // The bit pattern of a number, with one pattern for every NaN. That the
@@ -128,7 +122,8 @@ fn exponent_of(p: u64) -> u64
     p / LEADING - 1
 }
 
-// The remainder of m * 2^s by n, 11 digits of s a turn.
+// The remainder of m * 2^s by n, 11 digits of s a turn. The loop counts down what is left, which the last shift
+// needs: a `for` over s / 11 turns was tried, and each remainder takes a twentieth longer.
 fn reduced(m: u64, n: u64, s: u64) -> u64
     requires { (m < 2 ^ 53) × (0 < n) × (n < 2 ^ 53) }
     ensures { result ≡ m * 2 ^ s % n }
@@ -177,10 +172,8 @@ fn power(c: u64, k: u64, n: u64, v: u64) -> u64
     ensures { (result % n ≡ 2 ^ (c * 2 ^ k) % n) × (result < 2 ^ 56) }
 {
     let mut x: u64 = 1 << c;
-    let mut i = 0;
-    while i < k {
+    for _ in 0..k {
         x = product(x, x, n, v);
-        i += 1;
     }
     x
 }

@@ -1,346 +1,248 @@
 // A program as text: the listing from its start line to its fn lines. What does not fit is cut.
 #![tactic(auto)]
 
-ghost use Rattle.std.specs.Prelude.{◌≡◌, [], ◌∷◌, map, ℕ, ◌+◌, ◌*◌, ◌≤◌, ◌<◌, length};
+ghost use Rattle.std.specs.Prelude.{◌≡◌, map, ℕ, ◌+◌, ◌*◌, ◌≤◌, ◌<◌, length};
 ghost use Rattle.std.proofs.Math.Option.{some};
 ghost use Rattle.lent.specs.Bytes.{concat};
-ghost use Rattle.sifv.specs.Value.{Arr};
-ghost use Rattle.opc.specs.Op.{Binary, Unary, Ldc, Stc, JmpCnd, Fn};
+ghost use Rattle.opc.specs.Op.{Ldc, Stc, Fn};
 ghost use Rattle.opc.specs.inner.Fetch.{fields_told, record_at};
 ghost use Rattle.tables.specs.ProgramBytes.{decode_program};
-ghost use Rattle.text.specs.Text.{ascii, decimal, single_text, joined, value_text, words, number_fields, line_of};
-ghost use Rattle.text.specs.Put.{Put};
-ghost use Rattle.listing_text.specs.ProgramText.{op_words, op_line, program_text};
+ghost use Rattle.text.specs.Text.{ascii, single_text, joined, value_text, number_fields};
+ghost use Rattle.text.specs.inner.Appended.{Appended};
+ghost use Rattle.listing_text.specs.ProgramText.{bin_text, un_text, jmp_text, op_words, op_line, program_text};
 ghost use Rattle.ops.specs.inner.Told.{bin_in, un_in, jmp_in, item_told, param_at, literal_told, op_in, Within, PooledTold, instr_at, entry_line, table_entry};
 ghost use Rattle.lent.specs.Lists.{tabulate};
 ghost use Rattle.tables.specs.ProgramBytes.{program_in};
 
-// ---- a name and numbers, blanks between
+use text::Writer;
 
-fn put_one(out: &mut [u8], at: usize, name: &[u8], a: u64) -> usize
-    requires { at ≤ length out.old }
-    ensures { Put out.old at (joined (ascii " ") (name.now ∷ map decimal (a ∷ []))) out.new result }
+// ---- kinds of operators and jumps by number: another number is as the last; of opc's enums, which are made from a
+// number too, it would be the first
+
+fn binary_name(kind: u8) -> &'static [u8]
+    ensures { result.now ≡ bin_text (bin_in kind) }
 {
-    let p = text::put_all(out, at, name);
-    text::put_field(out, p, a)
-}
-
-fn put_two(out: &mut [u8], at: usize, name: &[u8], a: u64, b: u64) -> usize
-    requires { at ≤ length out.old }
-    ensures { Put out.old at (joined (ascii " ") (name.now ∷ map decimal (a ∷ (b ∷ [])))) out.new result }
-{
-    let p = text::put_all(out, at, name);
-    let q = text::put_field(out, p, a);
-    text::put_field(out, q, b)
-}
-
-fn put_three(out: &mut [u8], at: usize, name: &[u8], a: u64, b: u64, c: u64) -> usize
-    requires { at ≤ length out.old }
-    ensures { Put out.old at (joined (ascii " ") (name.now ∷ map decimal (a ∷ (b ∷ (c ∷ []))))) out.new result }
-{
-    let p = text::put_all(out, at, name);
-    let q = text::put_field(out, p, a);
-    let s = text::put_field(out, q, b);
-    text::put_field(out, s, c)
-}
-
-// ---- operations with a kind, which the record has as a number
-
-fn put_binary(out: &mut [u8], at: usize, kind: u8, a: u64, b: u64, c: u64) -> usize
-    requires { at ≤ length out.old }
-    ensures { Put out.old at (joined (ascii " ") (op_words (Binary (bin_in kind) a b c))) out.new result }
-{
-    let p = text::put_all(out, at, b"Binary ");
     match kind {
-        1 => put_three(out, p, b"Add", a, b, c),
-        2 => put_three(out, p, b"Sub", a, b, c),
-        3 => put_three(out, p, b"Mul", a, b, c),
-        4 => put_three(out, p, b"Div", a, b, c),
-        5 => put_three(out, p, b"Modu", a, b, c),
-        6 => put_three(out, p, b"Eq", a, b, c),
-        7 => put_three(out, p, b"Neq", a, b, c),
-        8 => put_three(out, p, b"LtEq", a, b, c),
-        9 => put_three(out, p, b"Lt", a, b, c),
-        10 => put_three(out, p, b"GtEq", a, b, c),
-        11 => put_three(out, p, b"Gt", a, b, c),
-        12 => put_three(out, p, b"Land", a, b, c),
-        13 => put_three(out, p, b"Lnot", a, b, c),
-        _ => put_three(out, p, b"Lor", a, b, c),
+        1 => b"Add",
+        2 => b"Sub",
+        3 => b"Mul",
+        4 => b"Div",
+        5 => b"Modu",
+        6 => b"Eq",
+        7 => b"Neq",
+        8 => b"LtEq",
+        9 => b"Lt",
+        10 => b"GtEq",
+        11 => b"Gt",
+        12 => b"Land",
+        13 => b"Lnot",
+        _ => b"Lor",
     }
 }
 
-fn put_unary(out: &mut [u8], at: usize, kind: u8, a: u64, b: u64) -> usize
-    requires { at ≤ length out.old }
-    ensures { Put out.old at (joined (ascii " ") (op_words (Unary (un_in kind) a b))) out.new result }
+fn unary_name(kind: u8) -> &'static [u8]
+    ensures { result.now ≡ un_text (un_in kind) }
 {
-    let p = text::put_all(out, at, b"Unary ");
     match kind {
-        1 => put_two(out, p, b"Lneg", a, b),
-        _ => put_two(out, p, b"Nneg", a, b),
+        1 => b"Lneg",
+        _ => b"Nneg",
     }
 }
 
-fn put_jmp_cnd(out: &mut [u8], at: usize, kind: u8, a: u64, word: u64) -> usize
-    requires { at ≤ length out.old }
-    ensures { Put out.old at (joined (ascii " ") (op_words (JmpCnd (jmp_in kind) a word))) out.new result }
+fn jump_name(kind: u8) -> &'static [u8]
+    ensures { result.now ≡ jmp_text (jmp_in kind) }
 {
-    let p = text::put_all(out, at, b"JmpCnd ");
     match kind {
-        1 => put_two(out, p, b"Jmpt", a, word),
-        _ => put_two(out, p, b"Jmpf", a, word),
+        1 => b"Jmpt",
+        _ => b"Jmpf",
     }
 }
 
-// ---- literals
+// ---- the pool
 
-// Entry k of the pool.
-fn put_item(out: &mut [u8], at: usize, program: &[u8], k: usize) -> usize
-    requires { (at ≤ length out.old) × (32768 ≤ length program.now) × (k < 1024) }
-    ensures { Put out.old at (single_text (item_told program.now k)) out.new result }
+// The number of entry k, which is also the parameter that it holds.
+fn entry_number(program: &[u8], k: usize) -> u64
+    requires { (32768 ≤ length program.now) × (k < 1024) }
+    ensures { result ≡ param_at program.now k }
 {
-    let e = opc::PROGRAM_POOL + opc::ENTRY_SIZE * k;
-    let word = lent::get_u64(program, e + opc::ENTRY_NUMBER);
-    text::put_single(out, at, sifv::single(lent::wide(program[e]), word))
+    lent::get_u64(
+        program,
+        opc::PROGRAM_POOL + opc::ENTRY_SIZE * k + opc::ENTRY_NUMBER,
+    )
+}
+
+// The single value of entry k.
+fn put_item(w: &mut Writer, program: &[u8], k: usize)
+    requires { (32768 ≤ length program.now) × (k < 1024) }
+    ensures { Appended w.old (single_text (item_told program.now k)) w.new }
+{
+    let kind = program[opc::PROGRAM_POOL + opc::ENTRY_SIZE * k] as u64;
+    w.put_single(sifv::single(kind, entry_number(program, k)));
 }
 
 // The n items from entry first on, commas between.
-fn put_items(out: &mut [u8], at: usize, program: &[u8], first: usize, n: usize) -> usize
-    requires { (at ≤ length out.old) × (32768 ≤ length program.now) × Within first n }
-    ensures { Put out.old at (joined (ascii ",") (map single_text (tabulate first n (item_told program.now)))) out.new result }
+fn put_items(w: &mut Writer, program: &[u8], first: usize, n: usize)
+    requires { (32768 ≤ length program.now) × Within first n }
+    ensures { Appended w.old (joined (ascii ",") (map single_text (tabulate first n (item_told program.now)))) w.new }
 {
-    let mut p = at;
-    let mut i = 0;
-    while i < n {
-        p = text::put_gap(out, p, i);
-        p = put_item(out, p, program, first + i);
-        i += 1;
+    for i in 0..n {
+        w.put_gap(i);
+        put_item(w, program, first + i);
     }
-    p
 }
 
-fn put_array(out: &mut [u8], at: usize, program: &[u8], first: usize, n: usize) -> usize
-    requires { (at ≤ length out.old) × (32768 ≤ length program.now) × Within first n }
-    ensures { Put out.old at (value_text (Arr (tabulate first n (item_told program.now)))) out.new result }
+// The n parameters from entry first on, a blank before each.
+fn put_params(w: &mut Writer, program: &[u8], first: usize, n: usize)
+    requires { (32768 ≤ length program.now) × Within first n }
+    ensures { Appended w.old (number_fields (tabulate first n (param_at program.now))) w.new }
 {
-    let p = text::put_all(out, at, b"Arr:[");
-    let q = put_items(out, p, program, first, n);
-    text::put_all(out, q, b"]")
-}
-
-// The value of kind, length and number: an array's items are in the pool; a table is empty.
-fn put_literal(out: &mut [u8], at: usize, program: &[u8], kind: u8, len: u64, word: u64) -> usize
-    requires { (at ≤ length out.old) × (32768 ≤ length program.now) × ((kind ≡ 5) → Within word len) }
-    ensures { Put out.old at (value_text (literal_told program.now kind len word)) out.new result }
-{
-    if kind == 5 {
-        return put_array(out, at, program, word as usize, len as usize);
+    for i in 0..n {
+        w.put_field(entry_number(program, first + i));
     }
-    if kind == 6 {
-        return text::put_all(out, at, b"Tab:[]");
-    }
-    text::put_single(out, at, sifv::single(kind as u64, word))
-}
-
-fn put_ldc(
-    out: &mut [u8],
-    at: usize,
-    program: &[u8],
-    a: u64,
-    kind: u8,
-    len: u64,
-    word: u64,
-) -> usize
-    requires { (at ≤ length out.old) × (32768 ≤ length program.now) × ((kind ≡ 5) → Within word len) }
-    ensures { Put out.old at (joined (ascii " ") (op_words (Ldc a (literal_told program.now kind len word)))) out.new result }
-{
-    let p = text::put_all(out, at, b"Ldc ");
-    let q = text::put_decimal(out, p, a);
-    let s = text::put_all(out, q, b" ");
-    put_literal(out, s, program, kind, len, word)
-}
-
-fn put_stc(
-    out: &mut [u8],
-    at: usize,
-    program: &[u8],
-    kind: u8,
-    len: u64,
-    word: u64,
-    a: u64,
-) -> usize
-    requires { (at ≤ length out.old) × (32768 ≤ length program.now) × ((kind ≡ 5) → Within word len) }
-    ensures { Put out.old at (joined (ascii " ") (op_words (Stc (literal_told program.now kind len word) a))) out.new result }
-{
-    let p = text::put_all(out, at, b"Stc ");
-    let q = put_literal(out, p, program, kind, len, word);
-    text::put_field(out, q, a)
-}
-
-// ---- functions
-
-// The n parameters from entry first of the pool on, a blank before each.
-fn put_params(out: &mut [u8], at: usize, program: &[u8], first: usize, n: usize) -> usize
-    requires { (at ≤ length out.old) × (32768 ≤ length program.now) × Within first n }
-    ensures { Put out.old at (number_fields (tabulate first n (param_at program.now))) out.new result }
-{
-    let mut p = at;
-    let mut i = 0;
-    while i < n {
-        p = text::put_field(
-            out,
-            p,
-            lent::get_u64(
-                program,
-                opc::PROGRAM_POOL + opc::ENTRY_SIZE * (first + i) + opc::ENTRY_NUMBER,
-            ),
-        );
-        i += 1;
-    }
-    p
-}
-
-fn put_fn(out: &mut [u8], at: usize, program: &[u8], a: u64, len: u64, word: u64) -> usize
-    requires { (at ≤ length out.old) × (32768 ≤ length program.now) × Within word len }
-    ensures { Put out.old at (joined (ascii " ") (op_words (Fn a (tabulate word len (param_at program.now))))) out.new result }
-{
-    let p = text::put_all(out, at, b"Fn ");
-    let q = text::put_decimal(out, p, a);
-    put_params(out, q, program, word as usize, len as usize)
 }
 
 // ---- instructions
 
-// The operation that the fields of a record tell, by its number (docs/FORMATS.md), and its operands.
-fn put_op(out: &mut [u8], at: usize, program: &[u8], f: opc::Fields) -> usize
-    requires { (at ≤ length out.old) × (32768 ≤ length program.now) × PooledTold f.word (op_in program.now (fields_told f)) }
-    ensures { Put out.old at (joined (ascii " ") (op_words (op_in program.now (fields_told f)))) out.new result }
+// The literal in the fields of a record: an array's items are in the pool; a table is empty.
+fn put_literal(w: &mut Writer, program: &[u8], f: opc::Fields)
+    requires { (32768 ≤ length program.now) × ((f.kind ≡ 5) → Within f.word f.len) }
+    ensures { Appended w.old (value_text (literal_told program.now f.kind f.len f.word)) w.new }
 {
-    let code = f.code;
-    let kind = f.kind;
+    match f.kind {
+        opc::ARR => {
+            w.put_all(b"Arr:[");
+            put_items(w, program, f.word as usize, f.len as usize);
+            w.put_all(b"]");
+        }
+        opc::TAB => w.put_all(b"Tab:[]"),
+        _ => w.put_single(sifv::single(f.kind as u64, f.word)),
+    }
+}
+
+fn put_ldc(w: &mut Writer, program: &[u8], f: opc::Fields)
+    requires { (32768 ≤ length program.now) × ((f.kind ≡ 5) → Within f.word f.len) }
+    ensures { Appended w.old (joined (ascii " ") (op_words (Ldc f.a (literal_told program.now f.kind f.len f.word)))) w.new }
+{
+    w.put_words(b"Ldc", &[f.a as u64]);
+    w.put_all(b" ");
+    put_literal(w, program, f);
+}
+
+fn put_stc(w: &mut Writer, program: &[u8], f: opc::Fields)
+    requires { (32768 ≤ length program.now) × ((f.kind ≡ 5) → Within f.word f.len) }
+    ensures { Appended w.old (joined (ascii " ") (op_words (Stc (literal_told program.now f.kind f.len f.word) f.a))) w.new }
+{
+    w.put_all(b"Stc ");
+    put_literal(w, program, f);
+    w.put_field(f.a as u64);
+}
+
+fn put_fn(w: &mut Writer, program: &[u8], f: opc::Fields)
+    requires { (32768 ≤ length program.now) × Within f.word f.len }
+    ensures { Appended w.old (joined (ascii " ") (op_words (Fn f.a (tabulate f.word f.len (param_at program.now))))) w.new }
+{
+    w.put_words(b"Fn", &[f.a as u64]);
+    put_params(w, program, f.word as usize, f.len as usize);
+}
+
+// The operation that the fields of a record tell, by its number (docs/FORMATS.md), and its operands.
+fn put_op(w: &mut Writer, program: &[u8], f: opc::Fields)
+    requires { (32768 ≤ length program.now) × PooledTold f.word (op_in program.now (fields_told f)) }
+    ensures { Appended w.old (joined (ascii " ") (op_words (op_in program.now (fields_told f)))) w.new }
+{
     let a = f.a as u64;
     let b = f.b as u64;
     let c = f.c as u64;
-    let len = f.len as u64;
-    let word = f.word;
-    match code {
-        1 => put_binary(out, at, kind, a, b, c),
-        2 => put_unary(out, at, kind, a, b),
-        3 => put_ldc(out, at, program, a, kind, len, word),
-        4 => put_two(out, at, b"Ldn", a, b),
-        5 => put_two(out, at, b"Mv", a, b),
-        6 => put_two(out, at, b"Ldas", a, b),
-        7 => put_three(out, at, b"Ldav", a, b, c),
-        8 => put_three(out, at, b"Upda", a, b, c),
-        9 => put_stc(out, at, program, kind, len, word, a),
-        10 => put_two(out, at, b"Stn", a, b),
-        11 => put_two(out, at, b"Str", a, b),
-        12 => put_jmp_cnd(out, at, kind, a, word),
-        13 => put_one(out, at, b"Jmpa", word),
-        14 => put_one(out, at, b"Incrr", a),
-        15 => put_one(out, at, b"Decrr", a),
-        16 => put_fn(out, at, program, a, len, word),
-        17 => put_two(out, at, b"Call", a, word),
-        18 => text::put_all(out, at, b"FnRet"),
-        19 => put_one(out, at, b"FnStackPush", a),
-        20 => put_one(out, at, b"FnStackPop", a),
-        21 => put_three(out, at, b"Tbli", a, b, c),
-        22 => put_three(out, at, b"Tblg", a, b, c),
-        23 => text::put_all(out, at, b"Nop"),
-        _ => text::put_all(out, at, b"Stop"),
+    match f.code {
+        opc::OP_BINARY => {
+            w.put_all(b"Binary ");
+            w.put_words(binary_name(f.kind), &[a, b, c]);
+        }
+        opc::OP_UNARY => {
+            w.put_all(b"Unary ");
+            w.put_words(unary_name(f.kind), &[a, b]);
+        }
+        opc::OP_LDC => put_ldc(w, program, f),
+        opc::OP_LDN => w.put_words(b"Ldn", &[a, b]),
+        opc::OP_MV => w.put_words(b"Mv", &[a, b]),
+        opc::OP_LDAS => w.put_words(b"Ldas", &[a, b]),
+        opc::OP_LDAV => w.put_words(b"Ldav", &[a, b, c]),
+        opc::OP_UPDA => w.put_words(b"Upda", &[a, b, c]),
+        opc::OP_STC => put_stc(w, program, f),
+        opc::OP_STN => w.put_words(b"Stn", &[a, b]),
+        opc::OP_STR => w.put_words(b"Str", &[a, b]),
+        opc::OP_JMP_CND => {
+            w.put_all(b"JmpCnd ");
+            w.put_words(jump_name(f.kind), &[a, f.word]);
+        }
+        opc::OP_JMPA => w.put_words(b"Jmpa", &[f.word]),
+        opc::OP_INCRR => w.put_words(b"Incrr", &[a]),
+        opc::OP_DECRR => w.put_words(b"Decrr", &[a]),
+        opc::OP_FN => put_fn(w, program, f),
+        opc::OP_CALL => w.put_words(b"Call", &[a, f.word]),
+        opc::OP_FN_RET => w.put_all(b"FnRet"),
+        opc::OP_FN_STACK_PUSH => w.put_words(b"FnStackPush", &[a]),
+        opc::OP_FN_STACK_POP => w.put_words(b"FnStackPop", &[a]),
+        opc::OP_TBLI => w.put_words(b"Tbli", &[a, b, c]),
+        opc::OP_TBLG => w.put_words(b"Tblg", &[a, b, c]),
+        opc::OP_NOP => w.put_all(b"Nop"),
+        _ => w.put_all(b"Stop"),
     }
 }
 
 // The line of instruction i: index, label, operation, operands.
-fn put_instr(out: &mut [u8], at: usize, program: &[u8], i: usize) -> usize
-    requires { (at ≤ length out.old) × (40960 ≤ length program.now) × (i < 1024) × PooledTold (record_at program.now i).word (op_in program.now (record_at program.now i)) }
-    ensures { Put out.old at (op_line i (instr_at program.now i)) out.new result }
+fn put_instr(w: &mut Writer, program: &[u8], i: usize)
+    requires { (40960 ≤ length program.now) × (i < 1024) × PooledTold (record_at program.now i).word (op_in program.now (record_at program.now i)) }
+    ensures { Appended w.old (op_line i (instr_at program.now i)) w.new }
 {
     let f = opc::fetch_fields(program, i);
-    let p = put_two(out, at, b"op", i as u64, f.lbl);
-    let q = text::put_all(out, p, b" ");
-    let s = put_op(out, q, program, f);
-    text::put_all(out, s, b"\n")
+    w.put_words(b"op", &[i as u64, f.lbl]);
+    w.put_all(b" ");
+    put_op(w, program, f);
+    w.put_all(b"\n");
 }
 
 // The lines of the first n instructions.
-fn put_code(out: &mut [u8], at: usize, program: &[u8], n: usize) -> usize
-    requires { (at ≤ length out.old) × (40960 ≤ length program.now) × (n ≤ 1024) × ((i : ℕ) → i < n → PooledTold (record_at program.now i).word (op_in program.now (record_at program.now i))) }
-    ensures { Put out.old at (concat (tabulate 0 n (λ i. op_line i (instr_at program.now i)))) out.new result }
+fn put_code(w: &mut Writer, program: &[u8], n: usize)
+    requires { (40960 ≤ length program.now) × (n ≤ 1024) × ((i : ℕ) → i < n → PooledTold (record_at program.now i).word (op_in program.now (record_at program.now i))) }
+    ensures { Appended w.old (concat (tabulate 0 n (λ i. op_line i (instr_at program.now i)))) w.new }
 {
-    let mut p = at;
-    let mut i = 0;
-    while i < n {
-        p = put_instr(out, p, program, i);
-        i += 1;
+    for i in 0..n {
+        put_instr(w, program, i);
     }
-    p
 }
 
 // ---- tables
 
 // The line of number i, where it has an index: entry is 0, or the index and 1.
-fn put_entry(out: &mut [u8], at: usize, name: &[u8], i: usize, entry: u64) -> usize
-    requires { at ≤ length out.old }
-    ensures { Put out.old at (entry_line name.now i entry) out.new result }
+fn put_entry(w: &mut Writer, name: &[u8], i: usize, entry: u64)
+    ensures { Appended w.old (entry_line name.now i entry) w.new }
 {
-    if entry == 0 {
-        return at;
+    if entry > 0 {
+        w.put_line(name, &[i as u64, entry - 1]);
     }
-    let p = put_two(out, at, name, i as u64, entry - 1);
-    text::put_all(out, p, b"\n")
 }
 
 // The lines of the table of n entries at byte base.
-fn put_table(out: &mut [u8], at: usize, program: &[u8], name: &[u8], base: usize, n: usize) -> usize
-    requires { (at ≤ length out.old) × (n ≤ 1024) × (base + n * 2 ≤ length program.now) }
-    ensures { Put out.old at (concat (tabulate 0 n (λ i. entry_line name.now i (table_entry program.now base i)))) out.new result }
+fn put_table(w: &mut Writer, program: &[u8], name: &[u8], base: usize, n: usize)
+    requires { (n ≤ 1024) × (base + n * 2 ≤ length program.now) }
+    ensures { Appended w.old (concat (tabulate 0 n (λ i. entry_line name.now i (table_entry program.now base i)))) w.new }
 {
-    let mut p = at;
-    let mut i = 0;
-    while i < n {
-        p = put_entry(
-            out,
-            p,
-            name,
-            i,
-            lent::get_u16(program, base + i * tables::INDEX_SIZE),
-        );
-        i += 1;
+    for i in 0..n {
+        let entry = lent::get_u16(program, base + i * tables::INDEX_SIZE);
+        put_entry(w, name, i, entry);
     }
-    p
 }
 
 // ---- the whole
 
-fn put_start(out: &mut [u8], at: usize, start: usize) -> usize
-    requires { at ≤ length out.old }
-    ensures { Put out.old at (line_of (words "start" (start ∷ []))) out.new result }
-{
-    let p = put_one(out, at, b"start", start as u64);
-    text::put_all(out, p, b"\n")
-}
-
 // Code start, instructions, labels, functions.
-pub fn put_program(out: &mut [u8], at: usize, program: &[u8]) -> usize
-    requires { (at ≤ length out.old) × (40960 ≤ length program.now) × (decode_program program.now ≡ some (program_in program.now)) }
-    ensures { Put out.old at (program_text (program_in program.now)) out.new result }
+pub fn put_program(w: &mut Writer, program: &[u8])
+    requires { (40960 ≤ length program.now) × (decode_program program.now ≡ some (program_in program.now)) }
+    ensures { Appended w.old (program_text (program_in program.now)) w.new }
 {
-    let p = put_start(out, at, program::start_of(program));
-    let q = put_code(out, p, program, program::count_of(program));
-    let s = put_table(
-        out,
-        q,
-        program,
-        b"label",
-        tables::PROGRAM_LABELS,
-        tables::LABELS,
-    );
-    put_table(
-        out,
-        s,
-        program,
-        b"fn",
-        tables::PROGRAM_FUNCTIONS,
-        lent::TEXTS,
-    )
+    w.put_line(b"start", &[program::start_of(program) as u64]);
+    put_code(w, program, program::count_of(program));
+    put_table(w, program, b"label", tables::PROGRAM_LABELS, tables::LABELS);
+    put_table(w, program, b"fn", tables::PROGRAM_FUNCTIONS, lent::TEXTS);
 }

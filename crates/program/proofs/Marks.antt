@@ -2,8 +2,7 @@
 use mathlib.Core.Path.{◌≡◌, refl, sym, ap, ap₂, ◌∙◌, subst}
 use mathlib.Core.Bool.{Bool, true, false, cond, ◌&&◌}
 use mathlib.Core.List.{List}
-use Prim.Native.Nat.{ℕ, suc, ◌+◌, ◌-◌, ◌≤◌, ◌<◌}
-use native.Mathlib.Nat.{sub-zero}
+use Prim.Native.Nat.{ℕ, suc, ◌+◌, ◌-◌, ◌*◌, ◌≤◌, ◌<◌}
 use native.Mathlib.Numerals.{add-one}
 use native.Mathlib.Omega.{arith}
 use lib.Dec.{leb, eqb}
@@ -11,7 +10,9 @@ use lib.ListN.{length, get_or, set, length-set}
 use lib.Seq.{get_or-set_same, get_or-set_other}
 use borrow.Author.Tests.{leb-true, eqb-true, eqb-false}
 use Rattle.sifv.specs.laws.Layout.{and_left, and_right}
-use Rattle.records.specs.inner.Fits.{fits_as, record_ok}
+use Rattle.records.specs.inner.Fits.{all_from, fits_as, record_ok}
+use Rattle.records.proofs.Scan.{scan_at}
+use Rattle.records.proofs.Places.{first_byte, byte_of}
 use Rattle.program.specs.inner.Marked.{lbl_of, name_of, marked}
 use Rattle.opc.specs.inner.Fetch.{record_at}
 
@@ -41,9 +42,6 @@ pub record Filling (w : ℕ → Bool) (k : ℕ → ℕ) (size n : ℕ) (t₀ : L
   pub leads : (l : ℕ) → l < size → marked w k l n 0 (get_or t₀ l 0) ≡ marked w k l (n - i) i (get_or t l 0)
 
 module _ (w : ℕ → Bool) (k : ℕ → ℕ) (size n : ℕ) (t₀ : List ℕ) where
-  pub fill_first : length t₀ ≡ size → Filling w k size n t₀ 0 t₀
-  fill_first e = record { sized = e; leads = λ l h. ap (λ (m : ℕ). marked w k l m 0 (get_or t₀ l 0)) (sym (sub-zero n)) }
-
   pub fill_turn : (i : ℕ) (t : List ℕ) {u : List ℕ} (new : Bool) (key : ℕ) → i < n → Filling w k size n t₀ i t → new ≡ w i → key ≡ k i → (new ≡ true → key < size)
       → u ≡ cond new (set t key (i + 2)) t → Filling w k size n t₀ (i + 1) u
   fill_turn i t {u} new key h f a b g e =
@@ -58,9 +56,6 @@ module _ (w : ℕ → Bool) (k : ℕ → ℕ) (size n : ℕ) (t₀ : List ℕ) w
             (ap₂ (λ (x : Bool) (y : ℕ). cond (x && eqb y l) (i + 2) (get_or t l 0)) (sym a) (sym b) ∙ sym (mark_at_lem t new key i e s l));
       }
 
-  pub fill_end : (i : ℕ) (t : List ℕ) → n ≤ i → Filling w k size n t₀ i t → (l : ℕ) → l < size → get_or t l 0 ≡ marked w k l n 0 (get_or t₀ l 0)
-  fill_end i t h f l q = let m : n - i ≡ 0 = omega arith in sym (f.leads l q ∙ ap (λ (x : ℕ). marked w k l x i (get_or t l 0)) m)
-
 -- ---- the places are within the tables
 
 module _ (b : List ℕ) (i : ℕ) (h : record_ok b i ≡ true) where
@@ -71,3 +66,8 @@ module _ (b : List ℕ) (i : ℕ) (h : record_ok b i ≡ true) where
   name_small q =
       let e : fits_as 16 (record_at b i) ≡ true = subst (λ (o : ℕ). fits_as o (record_at b i) ≡ true) q (and_right (leb (lbl_of b i) 1023) (fits_as (record_at b i).code (record_at b i)) h) in
       leb-true (name_of b i) 63 (and_left _ _ (and_left _ _ (and_left _ _ e)))
+
+pub name_within : (b : List ℕ) (n : ℕ) → all_from n 0 (record_ok b) ≡ true → (i : ℕ) → i < n → eqb (get_or b (16 * i) 0) 16 ≡ true → get_or b (16 * i + 4) 0 < 64
+name_within b n all i h q =
+    let k = scan_at (record_ok b) n 0 all i (omega arith) (omega arith) in
+    omega (arith, byte_of b (16 * i) 4 (omega arith), name_small b i k (sym (first_byte b (16 * i)) ∙ eqb-true (get_or b (16 * i) 0) 16 q))

@@ -22,7 +22,8 @@ fn label(program: &[u8], i: usize) -> u64
 }
 
 // The entry k of a table, while it is made, goes to index i, where it is new. An index is kept with
-// 2 added; 1 is none. (Not 0: a large array of zeros is filled by a call of C's memset.)
+// 2 added; 1 is none. (Not 0: a large array of zeros is filled by a call of C's memset. No `Option`,
+// which takes twice the bytes: the stored table is compared with it, many entries at once.)
 fn mark(t: &mut [u16], new: bool, k: usize, i: usize)
     requires { (i < 1024) × (new ≡ true → k < length t.old) }
     ensures { t.new ≡ cond new (set t.old k (i + 2)) t.old }
@@ -40,12 +41,10 @@ fn fill_labels(program: &[u8], n: usize, t: &mut [u16])
 {
     mark(t, 0 < n, 0, 0);
     let mut was = label(program, 0);
-    let mut i = 0;
-    while i < n {
+    for i in 0..n {
         let l = label(program, i);
         mark(t, l != was, l as usize, i);
         was = l;
-        i += 1;
     }
 }
 
@@ -54,8 +53,7 @@ fn fill_functions(program: &[u8], n: usize, t: &mut [u16])
     requires { (40960 ≤ length program.now) × (n ≤ 1024) × (all_from n 0 (record_ok program.now) ≡ true) × (length t.old ≡ 64) }
     ensures { (length t.new ≡ 64) × ((x : ℕ) → x < 64 → get_or t.new x 0 ≡ marked (is_fn program.now) (name_of program.now) x n 0 (get_or t.old x 0)) }
 {
-    let mut i = 0;
-    while i < n {
+    for i in 0..n {
         let at = opc::RECORD_SIZE * i;
         mark(
             t,
@@ -63,24 +61,15 @@ fn fill_functions(program: &[u8], n: usize, t: &mut [u16])
             program[at + opc::RECORD_A] as usize,
             i,
         );
-        i += 1;
     }
 }
 
-// Two bytes as one number, the first the lower: read at once.
-fn pair(program: &[u8], at: usize) -> u64
+// An entry of a stored table.
+fn entry_at(program: &[u8], at: usize) -> u16
     requires { at + 2 ≤ length program.now }
-    ensures { (result % 256 * 256 + result / 256 ≡ be_value (part program.now at 2)) × (result < 65536) }
+    ensures { result ≡ be_value (part program.now at 2) }
 {
-    lent::wide(program[at]) + 256 * lent::wide(program[at + 1])
-}
-
-// The same with the first the higher.
-fn turned(x: u64) -> u16
-    requires { x < 65536 }
-    ensures { result ≡ x % 256 * 256 + x / 256 }
-{
-    (x % 256 * 256 + x / 256) as u16
+    u16::from_be_bytes([program[at], program[at + 1]])
 }
 
 // Whether the table at byte at is t. Numbers of 16 bits, so that many are compared at once.
@@ -89,19 +78,18 @@ fn same_table(program: &[u8], at: usize, t: &[u16]) -> bool
     ensures { result ≡ same_table program.now at (length t.now) (λ l. get_or t.now l 0) }
 {
     let mut ok = true;
-    let mut l = 0;
-    while l < t.len() {
-        ok = ok & (turned(pair(program, at + tables::INDEX_SIZE * l)) == t[l] - 1);
-        l += 1;
+    for (l, entry) in t.iter().enumerate() {
+        ok = ok & (entry_at(program, at + tables::INDEX_SIZE * l) == *entry - 1);
     }
     ok
 }
 
-fn all_labels_ok(program: &[u8], n: usize) -> bool
-    requires { (40960 ≤ length program.now) × (n ≤ 1024) × (all_from n 0 (record_ok program.now) ≡ true) }
-    ensures { result ≡ same_table program.now 32768 1024 (label_entry program.now n) }
+// Whether the first N entries of the table of labels are right, where each label is below N.
+fn labels_agree<const N: usize>(program: &[u8], n: usize) -> bool
+    requires { (40960 ≤ length program.now) × (n ≤ 1024) × ((i : ℕ) → i < n → lbl_of program.now i < N) × (0 < N) × (N ≤ 1024) }
+    ensures { result ≡ same_table program.now 32768 N (label_entry program.now n) }
 {
-    let mut t = [1u16; tables::LABELS];
+    let mut t = [1u16; N];
     fill_labels(program, n, &mut t);
     same_table(program, tables::PROGRAM_LABELS, &t)
 }
@@ -115,34 +103,23 @@ fn has_few(program: &[u8], n: usize) -> bool
         return false;
     }
     let mut ok = true;
-    let mut i = 0;
-    while i < n {
+    for i in 0..n {
         ok = ok & ((label(program, i) as usize) < FEW);
-        i += 1;
     }
     ok
 }
 
-// The table of such a program: a short one, and zeros behind it.
-fn few_labels_ok(program: &[u8], n: usize) -> bool
-    requires { (40960 ≤ length program.now) × (n ≤ 1024) × (all_from n 0 (few_label program.now) ≡ true) }
-    ensures { result ≡ same_table program.now 32768 1024 (label_entry program.now n) }
-{
-    let mut t = [1u16; FEW];
-    fill_labels(program, n, &mut t);
-    let rest = tables::PROGRAM_LABELS + tables::INDEX_SIZE * FEW;
-    same_table(program, tables::PROGRAM_LABELS, &t)
-        & lent::all_zero(program, rest, tables::PROGRAM_FUNCTIONS - rest)
-}
-
+// Of a program with few labels the table is a short one, and zeros behind it.
 fn labels_ok(program: &[u8], n: usize) -> bool
     requires { (40960 ≤ length program.now) × (n ≤ 1024) × (all_from n 0 (record_ok program.now) ≡ true) }
     ensures { result ≡ same_table program.now 32768 1024 (label_entry program.now n) }
 {
     if has_few(program, n) {
-        return few_labels_ok(program, n);
+        let rest = tables::PROGRAM_LABELS + tables::INDEX_SIZE * FEW;
+        return labels_agree::<FEW>(program, n)
+            & lent::all_zero(program, rest, tables::PROGRAM_FUNCTIONS - rest);
     }
-    all_labels_ok(program, n)
+    labels_agree::<{ tables::LABELS }>(program, n)
 }
 
 fn functions_ok(program: &[u8], n: usize) -> bool

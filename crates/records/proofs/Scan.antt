@@ -1,16 +1,8 @@
 -- Loops that look at every index: the answer of the whole is the answer so far, and that of what is left.
 use Rattle.std.proofs.Common.{◌≡◌, ℕ, zero, suc, ◌+◌, ◌-◌, ◌<◌, ◌≤◌, Bool, true, false, ◌&&◌, eqb, sym, refl, ap, ◌∙◌, subst, ap₂, add-one, arith, eqb-true}
-use native.Mathlib.Nat.{sub-zero, add-sub_cancel_left}
 use borrow.Author.Tests.{eqb-false}
 use Rattle.sifv.specs.laws.Layout.{and_left, and_right}
 use Rattle.records.specs.inner.Fits.{all_from}
-
--- where a loop begins
-pub scan_start : (t : ℕ → Bool) (i n : ℕ) → all_from n i t ≡ (true && all_from (i + n - i) i t)
-scan_start t i n = ap (λ (m : ℕ). all_from m i t) (sym (add-sub_cancel_left i n))
-
-pub scan_first : (t : ℕ → Bool) (n : ℕ) → all_from n 0 t ≡ (true && all_from (n - 0) 0 t)
-scan_first t n = ap (λ (m : ℕ). all_from m 0 t) (sym (sub-zero n))
 
 -- one more index
 pub scan_turn : (t : ℕ → Bool) (n i : ℕ) {w : Bool} (ok x : Bool) → i < n → w ≡ (ok && all_from (n - i) i t) → x ≡ t i → w ≡ ((ok && x) && all_from (n - (i + 1)) (i + 1) t)

@@ -1,14 +1,11 @@
 // The records and the pool of a program, looked at one by one: what the program check (8) tests of them.
 #![tactic(auto)]
 
-ghost use Rattle.std.specs.Prelude.{◌≡◌, ◌+◌, ◌/◌, ◌%◌, ◌<◌, ◌≤◌, true, not, ◌&&◌, ◌||◌, [], ◌∷◌, length, if◌then◌else◌, ◌==◌, bit_and};
+ghost use Rattle.std.specs.Prelude.{◌≡◌, ◌+◌, ◌/◌, ◌%◌, ◌<◌, ◌≤◌, true, not, ◌&&◌, ◌||◌, [], ◌∷◌, length, if◌then◌else◌, ◌==◌, bit_and, Some, None};
 ghost use Rattle.opc.specs.inner.Fetch.{record_at};
 ghost use Rattle.records.specs.inner.Fits.{all_from, limits_of, is_literal, record_ok, is_array, entry_ok, span_fits, entries_fit, pooled, taken, pool_fits};
 ghost use Rattle.lent.specs.inner.Words.{le_value, eight};
 ghost use Rattle.records.specs.inner.Lanes.{limit_words, single_mask};
-
-// Past the pool: no entries fit from here on.
-const PAST: usize = opc::ENTRIES + 1;
 
 // Eight bytes as one number, the first the lowest, in a function of its own: the compiler makes one read of them here, and not where it is inlined with the tests.
 fn eight_at(program: &[u8], at: usize) -> u64
@@ -34,122 +31,122 @@ fn limits(code: u8) -> Allowed
     ensures { (result.mask ∷ result.add ∷ result.word ∷ []) ≡ limit_words (limits_of code) }
 {
     match code {
-        1 => Allowed {
+        opc::OP_BINARY => Allowed {
             mask: 0x0080_8080_0080_8000,
             add: 0x0120_2020_007c_7100,
             word: 0x0000_0000_0000_0000,
         },
-        2 => Allowed {
+        opc::OP_UNARY => Allowed {
             mask: 0x0000_8080_0080_8000,
             add: 0x0100_2020_007c_7d00,
             word: 0x0000_0000_0000_0000,
         },
-        3 => Allowed {
+        opc::OP_LDC => Allowed {
             mask: 0x0000_0080_0080_8000,
             add: 0x0100_0020_007c_7900,
             word: 0x0000_0000_0000_0000,
         },
-        4 => Allowed {
+        opc::OP_LDN => Allowed {
             mask: 0x0000_8080_0080_0000,
             add: 0x0000_4020_007c_0000,
             word: 0x0000_0000_0000_0000,
         },
-        5 => Allowed {
+        opc::OP_MV => Allowed {
             mask: 0x0000_8080_0080_0000,
             add: 0x0000_2020_007c_0000,
             word: 0x0000_0000_0000_0000,
         },
-        6 => Allowed {
+        opc::OP_LDAS => Allowed {
             mask: 0x0000_8080_0080_0000,
             add: 0x0000_2040_007c_0000,
             word: 0x0000_0000_0000_0000,
         },
-        7 => Allowed {
+        opc::OP_LDAV => Allowed {
             mask: 0x0080_8080_0080_0000,
             add: 0x0020_2040_007c_0000,
             word: 0x0000_0000_0000_0000,
         },
-        8 => Allowed {
+        opc::OP_UPDA => Allowed {
             mask: 0x0080_8080_0080_0000,
             add: 0x0020_2040_007c_0000,
             word: 0x0000_0000_0000_0000,
         },
-        9 => Allowed {
+        opc::OP_STC => Allowed {
             mask: 0x0000_0080_0080_8000,
             add: 0x0100_0040_007c_7900,
             word: 0x0000_0000_0000_0000,
         },
-        10 => Allowed {
+        opc::OP_STN => Allowed {
             mask: 0x0000_8080_0080_0000,
             add: 0x0000_4040_007c_0000,
             word: 0x0000_0000_0000_0000,
         },
-        11 => Allowed {
+        opc::OP_STR => Allowed {
             mask: 0x0000_8080_0080_0000,
             add: 0x0000_4020_007c_0000,
             word: 0x0000_0000_0000_0000,
         },
-        12 => Allowed {
+        opc::OP_JMP_CND => Allowed {
             mask: 0x0000_0080_0080_8000,
             add: 0x0100_0020_007c_7d00,
             word: 0x00fc_ffff_ffff_ffff,
         },
-        13 => Allowed {
+        opc::OP_JMPA => Allowed {
             mask: 0x0000_0000_0080_0000,
             add: 0x0000_0000_007c_0000,
             word: 0x00fc_ffff_ffff_ffff,
         },
-        14 => Allowed {
+        opc::OP_INCRR => Allowed {
             mask: 0x0000_0080_0080_0000,
             add: 0x0000_0020_007c_0000,
             word: 0x0000_0000_0000_0000,
         },
-        15 => Allowed {
+        opc::OP_DECRR => Allowed {
             mask: 0x0000_0080_0080_0000,
             add: 0x0000_0020_007c_0000,
             word: 0x0000_0000_0000_0000,
         },
-        16 => Allowed {
+        opc::OP_FN => Allowed {
             mask: 0x0000_0080_0080_0000,
             add: 0x0000_0040_007c_0000,
             word: 0x0000_0000_0000_0000,
         },
-        17 => Allowed {
+        opc::OP_CALL => Allowed {
             mask: 0x0000_0080_0080_0000,
             add: 0x0000_0040_007c_0000,
             word: 0x00ff_ffff_ffff_ffff,
         },
-        18 => Allowed {
+        opc::OP_FN_RET => Allowed {
             mask: 0x0000_0000_0080_0000,
             add: 0x0000_0000_007c_0000,
             word: 0x0000_0000_0000_0000,
         },
-        19 => Allowed {
+        opc::OP_FN_STACK_PUSH => Allowed {
             mask: 0x0000_0080_0080_0000,
             add: 0x0000_0020_007c_0000,
             word: 0x0000_0000_0000_0000,
         },
-        20 => Allowed {
+        opc::OP_FN_STACK_POP => Allowed {
             mask: 0x0000_0080_0080_0000,
             add: 0x0000_0020_007c_0000,
             word: 0x0000_0000_0000_0000,
         },
-        21 => Allowed {
+        opc::OP_TBLI => Allowed {
             mask: 0x0080_8080_0080_0000,
             add: 0x0020_4040_007c_0000,
             word: 0x0000_0000_0000_0000,
         },
-        22 => Allowed {
+        opc::OP_TBLG => Allowed {
             mask: 0x0080_8080_0080_0000,
             add: 0x0020_4040_007c_0000,
             word: 0x0000_0000_0000_0000,
         },
-        23 => Allowed {
+        opc::OP_NOP => Allowed {
             mask: 0x0000_0000_0080_0000,
             add: 0x0000_0000_007c_0000,
             word: 0x0000_0000_0000_0000,
         },
-        24 => Allowed {
+        opc::OP_STOP => Allowed {
             mask: 0x0000_0000_0080_0000,
             add: 0x0000_0000_007c_0000,
             word: 0x0000_0000_0000_0000,
@@ -209,7 +206,7 @@ fn record_ok(program: &[u8], i: usize) -> bool
     let m = limits(program[at]);
     let h = eight_at(program, at);
     let w = eight_at(program, at + opc::RECORD_NUMBER);
-    let sum = std::num::wrapping_add_u64(h, m.add);
+    let sum = h.wrapping_add(m.add);
     let most = ((h & m.mask) == 0) & ((sum & m.mask) == 0);
     let fields = most & (m.add / 72057594037927936 <= h / 256 % 256);
     literal_ok(h, w, fields & ((w & m.word) == 0))
@@ -221,10 +218,8 @@ pub fn records_ok(program: &[u8], n: usize) -> bool
     ensures { result ≡ all_from n 0 (record_ok program.now) }
 {
     let mut ok = true;
-    let mut i = 0;
-    while i < n {
+    for i in 0..n {
         ok = ok & record_ok(program, i);
-        i += 1;
     }
     ok
 }
@@ -236,7 +231,7 @@ fn entry_ok(program: &[u8], k: usize, least: u8, most: u8) -> bool
 {
     let at = opc::PROGRAM_POOL + opc::ENTRY_SIZE * k;
     let kind = program[at];
-    let number = (eight_at(program, at + opc::ENTRY_NUMBER) & single_mask(lent::wide(kind))) == 0;
+    let number = (eight_at(program, at + opc::ENTRY_NUMBER) & single_mask(kind as u64)) == 0;
     (least <= kind) & ((kind <= most) & number)
 }
 
@@ -245,50 +240,39 @@ fn entries_ok(program: &[u8], from: usize, n: usize, least: u8, most: u8) -> boo
     requires { (40960 ≤ length program.now) × (from + n ≤ 1024) }
     ensures { result ≡ all_from n from (entry_ok least most program.now) }
 {
-    let end = from + n;
     let mut ok = true;
-    let mut k = from;
-    while k < end {
+    for k in from..from + n {
         ok = ok & entry_ok(program, k, least, most);
-        k += 1;
     }
     ok
 }
 
 // Whether n entries, at most `most`, begin at next, as their record says, and end within the pool.
 fn span_ok(most: usize, n: usize, start: u64, next: usize) -> bool
-    requires { (next ≤ 1025) × (n < 256) }
+    requires { (next ≤ 1024) × (n < 256) }
     ensures { result ≡ span_fits most n start next }
 {
     (n <= most) & ((start == next as u64) & (next + n <= opc::ENTRIES))
 }
 
-// The entries of record i, at most `most`, of kinds from lo to hi: where those of the next record
-// begin, or 1,025, where the pool has ended and no entries fit.
-fn entries(program: &[u8], i: usize, most: usize, lo: u8, hi: u8, next: usize) -> usize
-    requires { (40960 ≤ length program.now) × (i < 1024) × (next ≤ 1025) }
-    ensures { result ≡ (if entries_fit most lo hi (record_at program.now i) next program.now then next + (record_at program.now i).len else 1025) }
+// The entries of record i, at most `most`, of kinds from lo to hi: where those of the next record begin.
+fn entries(program: &[u8], i: usize, most: usize, lo: u8, hi: u8, next: usize) -> Option<usize>
+    requires { (40960 ≤ length program.now) × (i < 1024) × (next ≤ 1024) }
+    ensures { result ≡ (if entries_fit most lo hi (record_at program.now i) next program.now then Some (next + (record_at program.now i).len) else None) }
 {
     let at = opc::RECORD_SIZE * i;
     let n = program[at + opc::RECORD_LENGTH] as usize;
-    if span_ok(
-        most,
-        n,
-        lent::get_u64(program, at + opc::RECORD_NUMBER),
-        next,
-    ) {
-        if entries_ok(program, next, n, lo, hi) {
-            return next + n;
-        }
-        return PAST;
+    let start = lent::get_u64(program, at + opc::RECORD_NUMBER);
+    if span_ok(most, n, start, next) && entries_ok(program, next, n, lo, hi) {
+        return Some(next + n);
     }
-    PAST
+    None
 }
 
 // The entries of record i, of any operation: an array's items, a function's parameters, or none.
-fn own(program: &[u8], i: usize, next: usize) -> usize
-    requires { (40960 ≤ length program.now) × (i < 1024) × (next ≤ 1025) }
-    ensures { result ≡ (if pooled (record_at program.now i) next program.now then next + taken (record_at program.now i) else 1025) }
+fn own(program: &[u8], i: usize, next: usize) -> Option<usize>
+    requires { (40960 ≤ length program.now) × (i < 1024) × (next ≤ 1024) }
+    ensures { result ≡ (if pooled (record_at program.now i) next program.now then Some (next + taken (record_at program.now i)) else None) }
 {
     let at = opc::RECORD_SIZE * i;
     let code = program[at];
@@ -299,30 +283,25 @@ fn own(program: &[u8], i: usize, next: usize) -> usize
     if code == opc::OP_FN {
         return entries(program, i, opc::PARAMETERS, 2, 2, next);
     }
-    next
+    Some(next)
 }
 
 // Whether an operation may have entries.
 fn may_pool(code: u8) -> bool
     ensures { result ≡ (is_literal code || code == 16) }
 {
-    match code {
-        3 => true,
-        9 => true,
-        16 => true,
-        _ => false,
-    }
+    matches!(code, opc::OP_LDC | opc::OP_STC | opc::OP_FN)
 }
 
 // The same; most operations have none.
-fn pooled(program: &[u8], i: usize, next: usize) -> usize
-    requires { (40960 ≤ length program.now) × (i < 1024) × (next ≤ 1025) }
-    ensures { result ≡ (if pooled (record_at program.now i) next program.now then next + taken (record_at program.now i) else 1025) }
+fn pooled(program: &[u8], i: usize, next: usize) -> Option<usize>
+    requires { (40960 ≤ length program.now) × (i < 1024) × (next ≤ 1024) }
+    ensures { result ≡ (if pooled (record_at program.now i) next program.now then Some (next + taken (record_at program.now i)) else None) }
 {
     if may_pool(program[opc::RECORD_SIZE * i]) {
         return own(program, i, next);
     }
-    next
+    Some(next)
 }
 
 // Whether the entries of the first n records follow one another in the pool, and are right.
@@ -331,10 +310,11 @@ pub fn pool_ok(program: &[u8], n: usize) -> bool
     ensures { result ≡ pool_fits n 0 0 program.now }
 {
     let mut next = 0;
-    let mut i = 0;
-    while i < n {
-        next = pooled(program, i, next);
-        i += 1;
+    for i in 0..n {
+        let Some(after) = pooled(program, i, next) else {
+            return false;
+        };
+        next = after;
     }
-    next <= opc::ENTRIES
+    true
 }

@@ -5,7 +5,8 @@ ghost use Rattle.std.specs.Prelude.{◌+◌, ◌*◌, ◌<◌, ◌≤◌, length
 ghost use Rattle.std.specs.Io.{ReadsAtMost};
 
 use anyhow::Context;
-use call_list::Last;
+use call_list::Ending;
+use lent::refusal;
 use std::fs::File;
 use std::io;
 use std::io::Read;
@@ -27,26 +28,23 @@ const STORED: usize = 260;
 
 fn count(counts: &mut [u64], at: usize, n: u64) {
     if at < counts.len() {
-        counts[at] = std::num::wrapping_add_u64(counts[at], n);
+        counts[at] = counts[at].wrapping_add(n);
     }
 }
 
 // ---- the checksum of all that the calls answer
 
 fn mix(sum: u64, word: u64) -> u64 {
-    let a = std::num::wrapping_add_u64(sum, word);
+    let a = sum.wrapping_add(word);
     let b = a ^ (a << 13);
     let c = b ^ (b >> 7);
     c ^ (c << 17)
 }
 
 fn mix_bytes(before: u64, s: &[u8]) -> u64 {
-    let n = s.len() / 8;
     let mut sum = before;
-    let mut i = 0;
-    while i < n {
+    for i in 0..s.len() / 8 {
         sum = mix(sum, lent::get_u64(s, 8 * i));
-        i += 1;
     }
     sum
 }
@@ -62,26 +60,19 @@ struct Reading {
 // The name of a text: its value goes into the checksum, and counts where it is held.
 fn name(state: &[u8], text: u64, before: Reading) -> Reading {
     let mut out = [0u8; 256];
-    let number = calls::read_call::read_name(state, text, &mut out);
+    let number = refusal::number_of(calls::read_call::read_name(state, text, &mut out));
     let sum = mix_bytes(mix(before.sum, number), &out);
-    if out[0] == 0 {
-        return Reading {
-            sum: sum,
-            held: before.held,
-        };
-    }
+    let held = if out[0] == 0 { 0 } else { 1 };
     Reading {
-        sum: sum,
-        held: std::num::wrapping_add_u64(before.held, 1),
+        sum,
+        held: before.held.wrapping_add(held),
     }
 }
 
 fn names(state: &[u8], sum: u64) -> Reading {
-    let mut all = Reading { sum: sum, held: 0 };
-    let mut text = 0;
-    while text < 64 {
+    let mut all = Reading { sum, held: 0 };
+    for text in 0..64 {
         all = name(state, text, all);
-        text += 1;
     }
     all
 }
@@ -112,40 +103,24 @@ fn in_portions(list: &mut [u8], steps: u64)
     call(list, 6, 0, 48, 0);
 }
 
-fn same_state(a: &[u8], b: &[u8]) -> bool {
-    let n = a.len();
-    if b.len() != n {
-        return false;
-    }
-    lent::same(a, 0, b, 0, n)
-}
-
-fn same_details(last: Last, report: &[u8]) -> bool
-    requires { 48 ≤ length report.now }
-{
-    if last.a != lent::get_u64(report, 16) {
-        return false;
-    }
-    if last.b != lent::get_u64(report, 24) {
-        return false;
-    }
-    last.c == lent::get_u64(report, 32)
-}
-
-fn same_answer(last: Last, steps: u64, report: &[u8]) -> bool {
-    if !last.given {
+// Whether the last ending of the calls is the one that a report tells; there is one where steps were given.
+fn same_answer(last: Option<Ending>, steps: u64, report: &[u8]) -> bool {
+    let Some(last) = last else {
         return steps == 0;
-    }
+    };
     if report.len() < 48 {
         return false;
     }
-    if last.answer != report[0] {
-        return false;
-    }
-    if last.number != report[1] {
-        return false;
-    }
-    same_details(last, report)
+    let told = Ending {
+        answer: report[0],
+        number: report[1],
+        details: [
+            lent::get_u64(report, 16),
+            lent::get_u64(report, 24),
+            lent::get_u64(report, 32),
+        ],
+    };
+    last == told
 }
 
 // Whether the steps in portions leave the state and the answer of one run, a stop's details with it.
@@ -153,12 +128,9 @@ fn portions(program: &[u8], steps: u64, state: &[u8], report: &[u8]) -> bool {
     let mut list = [0u8; 112];
     in_portions(&mut list, steps);
     let mut own = [0u8; 65536];
-    calls::start_call::start(program, &mut own);
+    let _ = calls::start_call::start(program, &mut own);
     let last = call_list::call_all(program, &mut own, &list);
-    if !same_state(&own, state) {
-        return false;
-    }
-    same_answer(last, steps, report)
+    own.as_slice() == state && same_answer(last, steps, report)
 }
 
 // ---- one program
@@ -205,14 +177,14 @@ fn count_run(
 fn carry_out(program: &[u8], steps: u64, before: u64, stored: u64, counts: &mut [u64]) {
     let mut state = [0u8; 65536];
     let mut report = [0u8; 48];
-    let number = calls::start_call::start(program, &mut state);
+    let number = refusal::number_of(calls::start_call::start(program, &mut state));
     let sum = mix(before, number);
     if number != 0 {
         count(counts, number as usize, 1);
         count_if(counts, STORED, sum == stored);
         return;
     }
-    let ran = calls::run_call::run(program, &mut state, steps, &mut report);
+    let ran = refusal::number_of(calls::run_call::run(program, &mut state, steps, &mut report));
     count_run(
         program,
         steps,
@@ -227,7 +199,7 @@ fn carry_out(program: &[u8], steps: u64, before: u64, stored: u64, counts: &mut 
 // A tree file: lowered, and run where it is accepted.
 fn file(bytes: &[u8], stored: u64, counts: &mut [u64]) {
     let mut program = [0u8; 40960];
-    let number = lower::lower(bytes, &mut program);
+    let number = refusal::number_of(lower::lower(bytes, &mut program));
     let sum = mix_bytes(mix(0, number), &program);
     if number != 0 {
         count(counts, number as usize, 1);
@@ -280,7 +252,8 @@ fn stored_program(bytes: &[u8], stored: u64, counts: &mut [u64]) {
 
 // ---- records
 
-// Reads until the buffer is full or the list ends; answers how many bytes it put at the buffer's start.
+// Reads until the buffer is full or the list ends; answers how many bytes it put at the buffer's start. Each turn goes
+// on by what a read gave.
 fn read_full<R: Read>(from: &mut R, buffer: &mut [u8]) -> io::Result<usize>
     ensures { ReadsAtMost result buffer.new }
 {
@@ -295,28 +268,25 @@ fn read_full<R: Read>(from: &mut R, buffer: &mut [u8]) -> io::Result<usize>
     Ok(done)
 }
 
-// The next length in a list; too long for any buffer where the list has ended.
-fn next_length(from: &mut File) -> io::Result<u64> {
+// The next length in a list, where the list has not ended.
+fn next_length(from: &mut File) -> io::Result<Option<usize>> {
     let mut head = [0u8; 4];
-    let n = read_full(from, &mut head)?;
-    if n < 4 {
-        return Ok(4294967295);
+    if read_full(from, &mut head)? < head.len() {
+        return Ok(None);
     }
-    Ok(lent::get_u32(&head, 0))
+    Ok(Some(lent::get_u32(&head, 0) as usize))
 }
 
 // Whether n bytes were there, and fit.
-fn fill(from: &mut File, buffer: &mut [u8], n: u64) -> io::Result<bool> {
-    let most = buffer.len() as u64;
-    if most < n {
+fn fill(from: &mut File, buffer: &mut [u8], n: usize) -> io::Result<bool> {
+    if buffer.len() < n {
         return Ok(false);
     }
-    let k = n as usize;
-    Ok(read_full(from, &mut buffer[0..k])? == k)
+    Ok(read_full(from, &mut buffer[..n])? == n)
 }
 
 // Whether the n bytes of an answer in words were there.
-fn skip(from: &mut File, n: u64) -> io::Result<bool> {
+fn skip(from: &mut File, n: usize) -> io::Result<bool> {
     let mut words = [0u8; 32768];
     fill(from, &mut words, n)
 }
@@ -324,51 +294,49 @@ fn skip(from: &mut File, n: u64) -> io::Result<bool> {
 // The next checksum; 0 where the list has ended.
 fn next_sum(from: &mut File) -> io::Result<u64> {
     let mut sum = [0u8; 8];
-    let n = read_full(from, &mut sum)?;
-    if n < 8 {
+    if read_full(from, &mut sum)? < sum.len() {
         return Ok(0);
     }
     Ok(lent::get_u64(&sum, 0))
 }
 
-// The file or program in the first n bytes.
-fn given(bytes: &[u8], n: u64, programs: bool, stored: u64, counts: &mut [u64]) {
-    let most = bytes.len() as u64;
-    if most < n {
-        return;
-    }
-    let k = n as usize;
+// A file or program.
+fn given(bytes: &[u8], programs: bool, stored: u64, counts: &mut [u64]) {
     if programs {
-        stored_program(&bytes[0..k], stored, counts);
-        return;
+        stored_program(bytes, stored, counts);
+    } else {
+        file(bytes, stored, counts);
     }
-    file(&bytes[0..k], stored, counts);
 }
 
 // The next record of a list, where there is one: the file or program, the answer in words, the checksum.
 fn record(from: &mut File, programs: bool, counts: &mut [u64]) -> io::Result<bool> {
     let mut bytes = [0u8; 32768];
-    let n = next_length(from)?;
+    let Some(n) = next_length(from)? else {
+        return Ok(false);
+    };
     if !fill(from, &mut bytes, n)? {
         return Ok(false);
     }
-    let words = next_length(from)?;
+    let Some(words) = next_length(from)? else {
+        return Ok(false);
+    };
     if !skip(from, words)? {
         return Ok(false);
     }
     let sum = next_sum(from)?;
     count(counts, RECORDS, 1);
-    given(&bytes, n, programs, sum, counts);
+    if n <= bytes.len() {
+        given(&bytes[..n], programs, sum, counts);
+    }
     Ok(true)
 }
 
 fn records(from: &mut File, programs: bool, counts: &mut [u64]) -> io::Result<()> {
-    let mut left: u64 = 1000000;
-    while left > 0 {
+    for _ in 0..1000000u64 {
         if !record(from, programs, counts)? {
             return Ok(());
         }
-        left -= 1;
     }
     Ok(())
 }
@@ -411,10 +379,8 @@ fn answer_line(rt: &impl Print, counts: &[u64], at: usize) -> io::Result<()> {
 }
 
 fn answer_lines(rt: &impl Print, counts: &[u64]) -> io::Result<()> {
-    let mut at = 0;
-    while at < RECORDS {
+    for at in 0..RECORDS {
         answer_line(rt, counts, at)?;
-        at += 1;
     }
     Ok(())
 }

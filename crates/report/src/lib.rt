@@ -6,7 +6,7 @@ ghost use Rattle.lent.specs.Bytes.{be_bytes};
 ghost use Rattle.vm.specs.Report.{signed_bytes};
 ghost use Rattle.report.specs.inner.Fields.{line_at, report_fields, report_of};
 
-use execute::{Answer, RuntimeErr};
+use execute::Answer;
 
 // A stop's line, in two's complement.
 fn line(start: u64, pos: u64) -> u64
@@ -16,29 +16,26 @@ fn line(start: u64, pos: u64) -> u64
     std::num::wrapping_sub_u64(pos + 1, start)
 }
 
-fn put_fields(out: &mut [u8], answer: u64, line: u64, e: RuntimeErr, took: u64)
+// What stopped it as its number and its details; 0 where nothing did.
+fn put_fields(
+    out: &mut [u8],
+    answer: u64,
+    number: u64,
+    line: u64,
+    details: (u64, u64, u64),
+    took: u64,
+)
     requires { 48 ≤ length out.old }
-    ensures { out.new ≡ report_fields answer (be_bytes 8 line) e took ++ drop 48 out.old }
+    ensures { out.new ≡ report_fields answer number (be_bytes 8 line) details took ++ drop 48 out.old }
 {
     lent::put_u8(out, 0, answer);
-    lent::put_u8(out, vm::REPORT_STOP, e.number);
+    lent::put_u8(out, vm::REPORT_STOP, number);
     lent::zero(out, 2, 6);
     lent::put_u64(out, vm::REPORT_LINE, line);
-    lent::put_u64(out, vm::REPORT_DETAILS, e.a);
-    lent::put_u64(out, vm::REPORT_DETAIL_2, e.b);
-    lent::put_u64(out, vm::REPORT_DETAIL_3, e.c);
+    lent::put_u64(out, vm::REPORT_DETAILS, details.0);
+    lent::put_u64(out, vm::REPORT_DETAIL_2, details.1);
+    lent::put_u64(out, vm::REPORT_DETAIL_3, details.2);
     lent::put_u64(out, vm::REPORT_STEPS, took);
-}
-
-fn no_stop() -> RuntimeErr
-    ensures { result ≡ record { number = 0; a = 0; b = 0; c = 0 } }
-{
-    RuntimeErr {
-        number: 0,
-        a: 0,
-        b: 0,
-        c: 0,
-    }
 }
 
 // What a run of a program that starts at `start` came to at a position, after so many steps.
@@ -47,8 +44,15 @@ pub fn write_report(out: &mut [u8], start: u64, answer: Answer, pos: usize, took
     ensures { out.new ≡ report_of start answer pos took ++ drop 48 out.old }
 {
     match answer {
-        Answer::Done => put_fields(out, 0, 0, no_stop(), took),
-        Answer::Stopped(e) => put_fields(out, 1, line(start, pos as u64), e, took),
-        Answer::Spent => put_fields(out, 2, 0, no_stop(), took),
+        Answer::Done => put_fields(out, 0, 0, 0, (0, 0, 0), took),
+        Answer::Stopped(e) => put_fields(
+            out,
+            1,
+            e.number(),
+            line(start, pos as u64),
+            e.details(),
+            took,
+        ),
+        Answer::Spent => put_fields(out, 2, 0, 0, (0, 0, 0), took),
     }
 }

@@ -83,7 +83,8 @@ pub fn single(kind: u64, word: u64) -> SifVal
     SifVal::Null
 }
 
-pub fn kind_of(v: SifVal) -> u64
+// The kind of a value, as its slot has it.
+pub fn kind_of(v: SifVal) -> u8
     ensures { (result ≡ kind_in v) × (result < 7) }
 {
     match v {
@@ -97,44 +98,17 @@ pub fn kind_of(v: SifVal) -> u64
     }
 }
 
-fn flag(b: bool) -> u64
-    ensures { result ≡ cond b 1 0 }
-{
-    if b { 1 } else { 0 }
-}
-
-fn raw_word(v: SifVal) -> u64
-    ensures { (result ≡ word_in v) × (single_of (single_kind (single_seen v)) result ≡ single_seen v) }
-{
-    match v {
-        SifVal::Empty => 0,
-        SifVal::Num(x) => numeric::bits_of(x),
-        SifVal::Str(t) => t,
-        SifVal::Bl(b) => flag(b),
-        SifVal::Null => 0,
-        SifVal::Arr(_) => 0,
-        SifVal::Tab(_) => 0,
-    }
-}
-
-fn whole(w: u64) -> u64
-    ensures { (result ≡ w) × (result < 2 ^ 64) }
-{
-    w
-}
-
 // The number of a value. That v reads back from it follows only where v's number fits its
 // format: it is said here so that no caller has to show that.
 pub fn word_of(v: SifVal) -> u64
     ensures { (result ≡ word_in v) × ReadBack (single_seen v) }
 {
-    whole(raw_word(v))
-}
-
-fn least(a: u64, b: u64) -> u64
-    ensures { result ≡ min a b }
-{
-    if a < b { a } else { b }
+    match v {
+        SifVal::Empty | SifVal::Null | SifVal::Arr(_) | SifVal::Tab(_) => 0,
+        SifVal::Num(x) => numeric::bits_of(x),
+        SifVal::Str(t) => t,
+        SifVal::Bl(b) => u64::from(b),
+    }
 }
 
 // The value that the slot at byte at shows.
@@ -151,10 +125,10 @@ pub fn get(s: &[u8], at: usize) -> SifVal
     }
     let n = lent::wide(s[at + VALUE_LENGTH]);
     if kind == 5 {
-        return SifVal::Arr(least(n, ARRAY_ITEMS));
+        return SifVal::Arr(n.min(ARRAY_ITEMS));
     }
     if kind == 6 {
-        return SifVal::Tab(least(n, TABLE_ITEMS));
+        return SifVal::Tab(n.min(TABLE_ITEMS));
     }
     SifVal::Empty
 }
@@ -173,13 +147,10 @@ pub fn item_kind(v: SifVal) -> u8
     ensures { result ≡ single_kind (single_seen v) }
 {
     match v {
-        SifVal::Empty => 4,
         SifVal::Num(_) => 1,
         SifVal::Str(_) => 2,
         SifVal::Bl(_) => 3,
-        SifVal::Null => 4,
-        SifVal::Arr(_) => 4,
-        SifVal::Tab(_) => 4,
+        SifVal::Empty | SifVal::Null | SifVal::Arr(_) | SifVal::Tab(_) => 4,
     }
 }
 
@@ -224,14 +195,12 @@ fn each_ok(s: &[u8], at: usize, n: usize) -> bool
     ensures { result ≡ upto n (item_test (part s.now at 256)) }
 {
     let mut ok = true;
-    let mut i = 0;
-    while i < n {
+    for i in 0..n {
         ok = ok
             & item_ok(
                 lent::wide(s[at + (VALUE_ITEM_KINDS + i)]),
                 lent::get_u64(s, at + (VALUE_ITEMS + i * NUMBER_SIZE)),
             );
-        i += 1;
     }
     ok
 }
@@ -242,10 +211,8 @@ fn numbers(s: &[u8], at: usize, n: usize) -> bool
     ensures { result ≡ upto n (number_test (part s.now at 256)) }
 {
     let mut ok = true;
-    let mut i = 0;
-    while i < n {
+    for i in 0..n {
         ok = ok & (s[at + (VALUE_ITEM_KINDS + i)] == 1);
-        i += 1;
     }
     ok
 }
@@ -256,10 +223,8 @@ fn moderate(s: &[u8], at: usize, n: usize) -> bool
     ensures { result ≡ upto n (moderate_test (part s.now at 256)) }
 {
     let mut ok = true;
-    let mut i = 0;
-    while i < n {
+    for i in 0..n {
         ok = ok & (s[at + (VALUE_ITEMS + i * NUMBER_SIZE)] % 128 < 127);
-        i += 1;
     }
     ok
 }
@@ -269,20 +234,14 @@ fn moderate_numbers(s: &[u8], at: usize, n: usize) -> bool
     requires { (at + 256 ≤ length s.now) × (n ≤ 24) }
     ensures { result ≡ (upto n (number_test (part s.now at 256)) && upto n (moderate_test (part s.now at 256))) }
 {
-    if numbers(s, at, n) {
-        return moderate(s, at, n);
-    }
-    false
+    numbers(s, at, n) && moderate(s, at, n)
 }
 
 fn items_ok(s: &[u8], at: usize, n: usize) -> bool
     requires { (at + 256 ≤ length s.now) × (n ≤ 24) }
     ensures { result ≡ upto n (item_test (part s.now at 256)) }
 {
-    if moderate_numbers(s, at, n) {
-        return true;
-    }
-    each_ok(s, at, n)
+    moderate_numbers(s, at, n) || each_ok(s, at, n)
 }
 
 // Whether a key is next or more, and below 64, and ok.
@@ -299,12 +258,10 @@ fn keys_ok(s: &[u8], at: usize, n: usize) -> bool
 {
     let mut ok = true;
     let mut next = 0;
-    let mut i = 0;
-    while i < n {
+    for i in 0..n {
         let k = lent::wide(s[at + VALUE_KEYS + i]);
         ok = key_ok(ok, next, k);
         next = k + 1;
-        i += 1;
     }
     ok
 }
@@ -357,7 +314,8 @@ fn tab_ok(s: &[u8], at: usize) -> bool
     keys_ok(s, at, n) & (box_ok(s, at, n) & lent::all_zero(s, at + (VALUE_KEYS + n), KEYS_SIZE - n))
 }
 
-// Whether the slot at byte at is the one form of a value that may be stored.
+// Whether the slot at byte at is the one form of a value that may be stored. By tests in turn: with a `match` of the
+// kind the compiler has no table for `word_bound` here.
 pub fn slot_ok(s: &[u8], at: usize) -> bool
     requires { at + 256 ≤ length s.now }
     ensures { result ≡ slot_ok (part s.now at 256) }
@@ -420,21 +378,6 @@ fn clear(s: &mut [u8], at: usize)
 {
     if 5 <= s[at] {
         lent::zero(s, at, VALUE_SIZE);
-        return;
-    }
-}
-
-fn kind_byte(v: SifVal) -> u8
-    ensures { result ≡ kind_in v }
-{
-    match v {
-        SifVal::Empty => 0,
-        SifVal::Num(_) => 1,
-        SifVal::Str(_) => 2,
-        SifVal::Bl(_) => 3,
-        SifVal::Null => 4,
-        SifVal::Arr(_) => 5,
-        SifVal::Tab(_) => 6,
     }
 }
 
@@ -450,7 +393,7 @@ pub fn pack(v: SifVal) -> Stored
     ensures { result ≡ stored_of v }
 {
     Stored {
-        kind: kind_byte(v),
+        kind: kind_of(v),
         word: word_of(v),
     }
 }
@@ -503,10 +446,8 @@ fn move_whole(s: &mut [u8], from: usize, to: usize)
     requires { (from + 256 ≤ length s.old) × (to + 256 ≤ length s.old) × (from % 256 ≡ to % 256) }
     ensures { s.new ≡ splice s.old to (part s.old from 256) }
 {
-    let mut i = 0;
-    while i < VALUE_SIZE {
+    for i in (0..VALUE_SIZE).step_by(NUMBER_SIZE) {
         lent::move_u64(s, from + i, to + i);
-        i += NUMBER_SIZE;
     }
 }
 

@@ -19,12 +19,10 @@ pub fn key_place(s: &[u8], at: usize, n: usize, key: u64) -> usize
     requires { (at + 256 ≤ length s.now) × (n ≤ 16) }
     ensures { result ≡ place (entries_in n (part s.now at 256)) key }
 {
-    let mut i = 0;
-    while i < n {
+    for i in 0..n {
         if key <= lent::wide(s[at + (crate::VALUE_KEYS + i)]) {
             return i;
         }
-        i += 1;
     }
     n
 }
@@ -45,9 +43,7 @@ fn open_entry(s: &mut [u8], at: usize, i: usize, n: usize)
     requires { (at + 256 ≤ length s.old) × (i ≤ n) × (n < 16) }
     ensures { s.new ≡ splice s.old at (opened (part s.old at 256) i n) }
 {
-    let mut j = n;
-    while i < j {
-        j -= 1;
+    for j in (i..n).rev() {
         lent::move_u64(
             s,
             at + (crate::VALUE_ITEMS + j * crate::NUMBER_SIZE),

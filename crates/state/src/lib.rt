@@ -8,7 +8,7 @@ ghost use Rattle.vm.specs.Machine as Machine;
 ghost use Rattle.stored.specs.StateBytes.{encode_state, state_ok};
 ghost use Rattle.execute.specs.inner.View.{Holds, view};
 ghost use Rattle.execute.specs.inner.Progress.{state_of};
-ghost use Rattle.state.specs.inner.Fields.{loc_at, progress_at, kind_bit, mark_of, place_ok, frame_ok, slots_ok, stack_ok, frames_ok, fns_ok, small_ok};
+ghost use Rattle.state.specs.inner.Fields.{loc_at, progress_at, mark_of, place_ok, frame_ok, slots_ok, stack_ok, frames_ok, fns_ok, small_ok};
 ghost use Rattle.tables.specs.ProgramBytes.{program_in};
 
 use execute::{Loc, Progress};
@@ -36,26 +36,15 @@ pub fn progress_of(state: &[u8]) -> Progress
     }
 }
 
-// 1 for a name that is held: its slot has a kind.
-fn held(kind: u8) -> u64
-    ensures { (result ≡ kind_bit kind) × (result ≤ 1) }
-{
-    if kind == 0 {
-        return 0;
-    }
-    1
-}
-
-// The mark of the names that are held: bit x is text x.
+// The mark of the names that are held, whose slots have a kind: bit x is text x.
 fn mark_of(state: &[u8]) -> u64
     requires { 47360 ≤ length state.now }
     ensures { result ≡ mark_of state.now }
 {
     let mut m: u64 = 0;
-    let mut x: usize = lent::TEXTS;
-    while 0 < x {
-        x -= 1;
-        m = 2 * m + held(state[stored::STATE_NAMES + x * sifv::VALUE_SIZE]);
+    for x in (0..lent::TEXTS).rev() {
+        let held = state[stored::STATE_NAMES + x * sifv::VALUE_SIZE] != 0;
+        m = 2 * m + held as u64;
     }
     m
 }
@@ -67,10 +56,8 @@ fn slots_ok(state: &[u8]) -> bool
     ensures { result ≡ slots_ok state.now }
 {
     let mut ok = true;
-    let mut i = 0;
-    while i < stored::STATE_SLOTS {
+    for i in 0..stored::STATE_SLOTS {
         ok = ok & sifv::slot_ok(state, i * sifv::VALUE_SIZE);
-        i += 1;
     }
     ok
 }
@@ -89,10 +76,8 @@ fn stack_ok(state: &[u8], depth: usize) -> bool
     ensures { result ≡ stack_ok state.now depth }
 {
     let mut ok = true;
-    let mut i = 0;
-    while i < stored::VALUE_STACK {
+    for i in 0..stored::VALUE_STACK {
         ok = ok & place_ok(i < depth, state[stored::STATE_STACK + i * sifv::VALUE_SIZE]);
-        i += 1;
     }
     ok
 }
@@ -112,13 +97,11 @@ fn each_frame_ok(state: &[u8], calls: usize, n: u64) -> bool
     ensures { result ≡ frames_ok state.now calls n }
 {
     let mut ok = true;
-    let mut i = 0;
-    while i < stored::CALL_STACK {
+    for i in 0..stored::CALL_STACK {
         let at = stored::STATE_CALLS + i * stored::FRAME_SIZE;
         ok = ok
             & (frame_ok(i < calls, lent::get_u16(state, at), n)
                 & (lent::get_u16(state, at + 2) == 0));
-        i += 1;
     }
     ok
 }
@@ -141,10 +124,8 @@ fn each_fn_ok(state: &[u8], n: u64) -> bool
     ensures { result ≡ fns_ok state.now n }
 {
     let mut ok = true;
-    let mut x = 0;
-    while x < lent::TEXTS {
+    for x in 0..lent::TEXTS {
         ok = ok & (lent::get_u16(state, stored::STATE_FUNCTIONS + x * tables::INDEX_SIZE) <= n);
-        x += 1;
     }
     ok
 }

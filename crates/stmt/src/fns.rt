@@ -1,9 +1,9 @@
 // A function's instruction with its parameters, their registers and their pops (`fndecl` of compiler.rs).
 ghost use Rattle.std.specs.Prelude.{◌≡◌, true, cond, ◌++◌, ◌∷◌, [], ◌+◌, ◌*◌, ◌≤◌, length, get_or, replicate};
 ghost use Rattle.lent.specs.Bytes.{splice};
-ghost use Rattle.opc.specs.Op.{Fn, Str, FnStackPop, instr};
+ghost use Rattle.opc.specs.Op.{Str, FnStackPop};
 ghost use Rattle.compiler.specs.Lower.{Place, Reg, push, lower_pops};
-ghost use Rattle.emit.specs.inner.Run.{after_events, kept, put_instr, Ready, Did};
+ghost use Rattle.emit.specs.inner.Run.{after_events, kept, Ready, Did};
 ghost use Rattle.emit.specs.inner.Made.{Reads};
 ghost use Rattle.stmt.specs.inner.Parts.{PushesFn, Pops, FnHead, statements, param_items};
 
@@ -12,32 +12,18 @@ fn param_items(names: &[u8], k: usize, out: &mut [u8])
     requires { (k + length names.now ≤ 1024) × (40960 ≤ length out.old) }
     ensures { out.new ≡ splice out.old (16384 + 16 * k) (param_items names.now) }
 {
-    let mut i = 0;
-    while i < names.len() {
-        opc::put_item(out, k + i, sifv::SifVal::Str(lent::wide(names[i])));
-        i += 1;
+    for (i, name) in names.iter().enumerate() {
+        opc::put_item(out, k + i, sifv::SifVal::Str(lent::wide(*name)));
     }
 }
 
-// The record and the items, where `keep`.
-fn keep_fn(keep: bool, lbl: u64, low: emit::Low, name: u8, names: &[u8], out: &mut [u8])
-    requires recs_bound { keep ≡ true → (low.recs + 1 ≤ 1024) × (low.items + length names.now ≤ 1024) }
-    requires names_len_bound { (length names.now ≤ 255) × (40960 ≤ length out.old) }
-    ensures { out.new ≡ cond keep (put_instr (instr lbl (Fn name names.now)) low out.old) out.old }
+// The same, where `keep`.
+fn keep_params(keep: bool, names: &[u8], k: usize, out: &mut [u8])
+    requires { keep ≡ true → (k + length names.now ≤ 1024) × (40960 ≤ length out.old) }
+    ensures { out.new ≡ cond keep (splice out.old (16384 + 16 * k) (param_items names.now)) out.old }
 {
     if keep {
-        param_items(names, low.items as usize, out);
-        let f = opc::Fields {
-            code: opc::OP_FN,
-            kind: 0,
-            lbl,
-            a: name,
-            b: 0,
-            c: 0,
-            len: names.len() as u8,
-            word: low.items as u64,
-        };
-        opc::put_record(out, low.recs as usize, f);
+        param_items(names, k, out);
         return;
     }
 }
@@ -53,15 +39,19 @@ fn push_fn(
     requires { Ready low out.old × (length names.now ≤ 255) }
     ensures { PushesFn keep low lbl name names.now out.old result out.new }
 {
-    if low.refused != 0 {
-        return low;
-    }
-    let n = names.len();
-    if emit::is_full(keep, low, n) {
-        return emit::refused(low, emit::SCRIPT_TOO_LARGE);
-    }
-    keep_fn(keep, lbl, low, name, names, out);
-    emit::count(keep, low, n)
+    let f = opc::Fields {
+        code: opc::OP_FN,
+        kind: 0,
+        lbl,
+        a: name,
+        b: 0,
+        c: 0,
+        len: names.len() as u8,
+        word: low.items as u64,
+    };
+    let q = emit::push_items(keep, low, f, names.len(), out);
+    keep_params(low.recs < q.recs, names, low.items as usize, out);
+    q
 }
 
 // n registers.
@@ -70,10 +60,8 @@ fn nextregs(n: usize, low: emit::Low) -> emit::Low
     ensures { result ≡ after_events (replicate n Reg) low }
 {
     let mut q = low;
-    let mut i = 0;
-    while i < n {
+    for _ in 0..n {
         q = emit::nextreg(q);
-        i += 1;
     }
     q
 }
@@ -103,12 +91,9 @@ fn pops(names: &[u8], reg: u8, keep: bool, lbl: u64, low: emit::Low, out: &mut [
     ensures { Pops keep names.now reg lbl low out.old result out.new }
 {
     let mut q = low;
-    let mut more = names.len();
-    while 0 < more {
-        let i = names.len() - more;
+    for (i, name) in names.iter().enumerate() {
         let r = lent::low(reg as u64 + i as u64);
-        q = pop(r, names[i], keep, lbl, q, out);
-        more -= 1;
+        q = pop(r, *name, keep, lbl, q, out);
     }
     q
 }

@@ -134,10 +134,8 @@ fn stmts(
     ensures { Goes (lists p.lbl n) contents.now bodies.now keep p out.old result out.new }
 {
     let mut q = p;
-    let mut more = n;
-    while 0 < more {
+    for _ in 0..n {
         q = block_at(contents, bodies, keep, q, out);
-        more -= 1;
     }
     q
 }
@@ -172,12 +170,10 @@ fn ifstmt(
     let n = bodies[0];
     let rest = contents[1] - IF_HEAD - n;
     let mut q = emit::start(ast::NODE_SIZE, 1, lbl, low);
-    let mut more = n + 1;
     let mut last = 0u64;
-    while 0 < more {
+    for more in (0..n + 1).rev() {
         let a = arm(last, contents, bodies, keep, q, out);
         last = jumps::waiting(keep, a.low, last);
-        more -= 1;
         q = jumps::next_arm(more, a);
     }
     let s = stmts(rest, contents, bodies, keep, q, out);

@@ -1,159 +1,139 @@
 // Text in a lent buffer: bytes, words, numbers. What does not fit is cut.
 #![tactic(auto)]
 
-ghost use Rattle.std.specs.Prelude.{◌≡◌, [], ◌∷◌, ◌++◌, ◌-◌, ◌^◌, ◌≤◌, ◌<◌, length};
-ghost use Rattle.sifv.specs.Value.{Num, Str, Bl, Null};
-ghost use Rattle.sifv.specs.inner.Seen.{single_seen};
-ghost use Rattle.text.specs.Text.{ascii, digits, decimal, hex_digit, hex, single_text, separator};
-ghost use Rattle.text.specs.Put.{Put};
+ghost use Rattle.std.specs.Prelude.{◌≡◌, ◌≤◌, ◌<◌, length};
+ghost use Rattle.text.specs.Text.{hex_digit};
 
 use sifv::SifVal;
-
-// One byte.
-pub fn put(out: &mut [u8], at: usize, b: u8) -> usize
-    requires { at ≤ length out.old }
-    ensures { Put out.old at (b ∷ []) out.new result }
-{
-    if at < out.len() {
-        out[at] = b;
-        return at + 1;
-    }
-    at
-}
-
-// All of s.
-pub fn put_all(out: &mut [u8], at: usize, s: &[u8]) -> usize
-    requires { at ≤ length out.old }
-    ensures { Put out.old at s.now out.new result }
-{
-    let mut p = at;
-    let mut i = 0;
-    while i < s.len() {
-        p = put(out, p, s[i]);
-        i += 1;
-    }
-    p
-}
-
-// A number in decimal, of at most k digits.
-fn put_digits(out: &mut [u8], at: usize, k: u64, n: u64) -> usize
-    requires { at ≤ length out.old }
-    ensures { Put out.old at (digits k n) out.new result }
-{
-    if k == 0 {
-        return at;
-    }
-    if n < 10 {
-        return put(out, at, lent::low(48 + n));
-    }
-    let p = put_digits(out, at, k - 1, n / 10);
-    put(out, p, lent::low(48 + n % 10))
-}
-
-pub fn put_decimal(out: &mut [u8], at: usize, n: u64) -> usize
-    requires { at ≤ length out.old }
-    ensures { Put out.old at (decimal n) out.new result }
-{
-    put_digits(out, at, 20, n)
-}
 
 fn hex_digit(d: u64) -> u8
     requires { d < 16 }
     ensures { result ≡ hex_digit d }
 {
     if d < 10 {
-        return lent::low(48 + d);
+        return b'0' + d as u8;
     }
-    lent::low(87 + d)
+    b'a' + (d - 10) as u8
 }
 
-// k hex digits of n; p is 16 to the power of one less than k.
-fn put_digits16(out: &mut [u8], at: usize, k: u64, p: u64, n: u64) -> usize
-    requires { (at ≤ length out.old) × (k ≤ 16) × (0 < k → p ≡ 16 ^ (k - 1)) }
-    ensures { Put out.old at (hex k n) out.new result }
-{
-    if k == 0 {
-        return at;
+// A lent buffer, and the place in it where the next byte goes.
+#[derive(Drop)]
+pub struct Writer<'a> {
+    out: &'a mut [u8],
+    at: usize,
+    ghost within: { at ≤ length out.now },
+}
+
+impl<'a> Writer<'a> {
+    ghost use Rattle.std.specs.Prelude.{◌≡◌, [], ◌∷◌, ◌++◌, map};
+    ghost use Rattle.sifv.specs.inner.Seen.{single_seen};
+    ghost use Rattle.text.specs.Text.{ascii, decimal, hex, single_text, joined, separator, line_of};
+    ghost use Rattle.text.specs.inner.Appended.{Appended};
+
+    // At the buffer's start.
+    pub fn new(out: &'a mut [u8]) -> Writer<'a>
+        ensures same_buffer { result.out.ghost_name ≡ out.entry.ghost_name }
+        ensures bytes { result.out.now ≡ out.old }
+        ensures start { result.at ≡ 0 }
+    {
+        Writer { out, at: 0 }
     }
-    let q = put(out, at, hex_digit(n / p % 16));
-    put_digits16(out, q, k - 1, p / 16, n)
-}
 
-// 16 hex digits.
-pub fn put_hex(out: &mut [u8], at: usize, n: u64) -> usize
-    requires { at ≤ length out.old }
-    ensures { Put out.old at (hex 16 n) out.new result }
-{
-    put_digits16(out, at, 16, 1152921504606846976, n)
-}
-
-// A number as a field of a line: the blank before it, and the number.
-pub fn put_field(out: &mut [u8], at: usize, n: u64) -> usize
-    requires { at ≤ length out.old }
-    ensures { Put out.old at (ascii " " ++ decimal n) out.new result }
-{
-    let p = put(out, at, 32);
-    put_decimal(out, p, n)
-}
-
-// The comma before item i.
-pub fn put_gap(out: &mut [u8], at: usize, i: usize) -> usize
-    requires { at ≤ length out.old }
-    ensures { Put out.old at (separator (ascii ",") i) out.new result }
-{
-    if i == 0 {
-        return at;
+    // Where the next byte goes.
+    pub fn place(&self) -> usize
+        ensures { result ≡ self.now.at }
+    {
+        self.at
     }
-    put(out, at, 44)
-}
 
-// ---- values
-
-fn put_num(out: &mut [u8], at: usize, x: f64) -> usize
-    requires { at ≤ length out.old }
-    ensures { Put out.old at (single_text (Num x)) out.new result }
-{
-    let p = put_all(out, at, b"Num:");
-    put_hex(out, p, numeric::bits_of(x))
-}
-
-fn put_str(out: &mut [u8], at: usize, t: u64) -> usize
-    requires { at ≤ length out.old }
-    ensures { Put out.old at (single_text (Str t)) out.new result }
-{
-    let p = put_all(out, at, b"Str:");
-    put_decimal(out, p, t)
-}
-
-fn put_bl(out: &mut [u8], at: usize, b: bool) -> usize
-    requires { at ≤ length out.old }
-    ensures { Put out.old at (single_text (Bl b)) out.new result }
-{
-    if b {
-        return put_all(out, at, b"Bl:1");
+    // One byte.
+    pub fn put(&mut self, b: u8)
+        ensures { Appended self.old (b ∷ []) self.new }
+    {
+        if self.at < self.out.len() {
+            self.out[self.at] = b;
+            self.at += 1;
+        }
     }
-    put_all(out, at, b"Bl:0")
-}
 
-fn put_null(out: &mut [u8], at: usize) -> usize
-    requires { at ≤ length out.old }
-    ensures { Put out.old at (single_text Null) out.new result }
-{
-    put_all(out, at, b"Null")
-}
+    // All of s.
+    pub fn put_all(&mut self, s: &[u8])
+        ensures { Appended self.old s.now self.new }
+    {
+        for x in s {
+            self.put(*x);
+        }
+    }
 
-// A single value, as the enum shows it.
-pub fn put_single(out: &mut [u8], at: usize, v: SifVal) -> usize
-    requires { at ≤ length out.old }
-    ensures { Put out.old at (single_text (single_seen v)) out.new result }
-{
-    match v {
-        SifVal::Empty => put_null(out, at),
-        SifVal::Num(x) => put_num(out, at, x),
-        SifVal::Str(t) => put_str(out, at, t),
-        SifVal::Bl(b) => put_bl(out, at, b),
-        SifVal::Null => put_null(out, at),
-        SifVal::Arr(_) => put_null(out, at),
-        SifVal::Tab(_) => put_null(out, at),
+    // A number in decimal.
+    pub fn put_decimal(&mut self, n: u64)
+        ensures { Appended self.old (decimal n) self.new }
+    {
+        if n >= 10 {
+            self.put_decimal(n / 10);
+        }
+        self.put(b'0' + (n % 10) as u8);
+    }
+
+    // 16 hex digits.
+    pub fn put_hex(&mut self, n: u64)
+        ensures { Appended self.old (hex 16 n) self.new }
+    {
+        for k in (0..16).rev() {
+            self.put(hex_digit(n / 16u64.pow(k) % 16));
+        }
+    }
+
+    // A number as a field of a line: the blank before it, and the number.
+    pub fn put_field(&mut self, n: u64)
+        ensures { Appended self.old (ascii " " ++ decimal n) self.new }
+    {
+        self.put(b' ');
+        self.put_decimal(n);
+    }
+
+    // A name and numbers, blanks between.
+    pub fn put_words(&mut self, name: &[u8], numbers: &[u64])
+        ensures { Appended self.old (joined (ascii " ") (name.now ∷ map decimal numbers.now)) self.new }
+    {
+        self.put_all(name);
+        for n in numbers {
+            self.put_field(*n);
+        }
+    }
+
+    // The same as a line.
+    pub fn put_line(&mut self, name: &[u8], numbers: &[u64])
+        ensures { Appended self.old (line_of (name.now ∷ map decimal numbers.now)) self.new }
+    {
+        self.put_words(name, numbers);
+        self.put_all(b"\n");
+    }
+
+    // The comma before item i.
+    pub fn put_gap(&mut self, i: usize)
+        ensures { Appended self.old (separator (ascii ",") i) self.new }
+    {
+        if i > 0 {
+            self.put(b',');
+        }
+    }
+
+    // A single value, as the enum shows it.
+    pub fn put_single(&mut self, v: SifVal)
+        ensures { Appended self.old (single_text (single_seen v)) self.new }
+    {
+        match v {
+            SifVal::Num(x) => {
+                self.put_all(b"Num:");
+                self.put_hex(numeric::bits_of(x));
+            }
+            SifVal::Str(t) => {
+                self.put_all(b"Str:");
+                self.put_decimal(t);
+            }
+            SifVal::Bl(b) => self.put_all(if b { b"Bl:1" } else { b"Bl:0" }),
+            SifVal::Empty | SifVal::Null | SifVal::Arr(_) | SifVal::Tab(_) => self.put_all(b"Null"),
+        }
     }
 }

@@ -1,2 +1,3 @@
 -- Laws and lemmas, and definitions that only proofs need. A reader may skip them.
 pub mod SlotTextLaws
+pub mod PutSlotText

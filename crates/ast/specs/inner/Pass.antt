@@ -1,14 +1,13 @@
 -- The structure check as one pass over nodes: what may stand where, how many children, and the limits, tested together on the way. What is left after a
 -- subtree, or nothing where it is refused (4). Structure.antt says which trees there are; proofs/Same.antt that both agree. Definitions only.
-use Rattle.std.specs.Prelude.{ℕ, zero, suc, ◌+◌, ◌-◌, ◌/◌, ◌%◌, ◌^◌, ◌≤◌, ◌≡◌, Bool, true, false, cond, not, ◌&&◌, List, [], ◌∷◌, leb, eqb, length, drop}
+use Rattle.std.specs.Prelude.{Option, Some, None, ℕ, zero, suc, ◌+◌, ◌-◌, ◌/◌, ◌%◌, ◌^◌, ◌≤◌, ◌≡◌, Bool, true, false, cond, not, ◌&&◌, List, [], ◌∷◌, leb, eqb}
 use Rattle.std.specs.Int.Bits.{bit_or}
 use Rattle.ast.specs.Node.{k_block, k_if, k_for, k_return, k_expr_stmt, k_var_decl, k_fn_decl, k_table, k_array, k_array_access}
 use Rattle.ast.specs.Node.{k_array_mut, k_call, k_assign, k_binary, k_unary, k_num, k_text, k_name, k_true, k_false, Kind, k_program, k_elif, k_item, k_stmt, k_right, k_expr, Node, node, number_of}
 use Rattle.ast.specs.Structure.{Parsed, Fails, Takes, field}
 use Rattle.ast.specs.File.{nodes_from, node_ok}
 use Rattle.ast.specs.inner.Room.{Room}
-use Rattle.ast.specs.declared.structure.Checked.{Checked}
-use Rattle.ast.specs.declared.structure.Checked.TheVariants.{Taken, Bad}
+use Rattle.ast.specs.declared.structure.Rest.{Rest}
 use Rattle.ast.specs.declared.structure.Plan.{Plan}
 use Rattle.lent.specs.Lists.{all}
 
@@ -167,18 +166,13 @@ pub record Fit (c b : List ℕ) : Type 0 where
   pub room : Room c b
   pub fields : all (node_ok texts) (nodes_from c b) ≡ true
 
-pub data Agrees (c b : List ℕ) : Remaining → Checked → Type 0 where
-  refuses : Agrees c b wrong Bad
-  takes : {u v : ℕ} {ns : List Node} → u ≤ length c → v ≤ length b → Fit (drop u c) (drop v b) → ns ≡ nodes_from (drop u c) (drop v b) → Agrees c b (left ns) (Taken u v)
+abbrev pub Fits : Rest → Type 0
+Fits p = Fit p.entries.now p.bodies.now
 
-abbrev pub shifted : ℕ → ℕ → Checked → Checked
-shifted u v (Taken x y) = Taken (u + x) (v + y)
-shifted u v Bad = Bad
+abbrev pub nodes_of : Rest → List Node
+nodes_of p = nodes_from p.entries.now p.bodies.now
 
-abbrev pub began : Bool → ℕ → Checked
-began true v = Taken 2 v
-began false v = Bad
-
-abbrev pub unless : Bool → Checked → Checked
-unless true r = Bad
-unless false r = r
+-- what is left, the nodes that the code leaves, and its answer
+pub data Agrees : Remaining → Rest → Option (Unit {0}) → Type 0 where
+  refuses : {p : Rest} → Agrees wrong p None
+  leaves : {p : Rest} {u : Unit {0}} → Fits p → Agrees (left (nodes_of p)) p (Some u)

@@ -1,6 +1,6 @@
 -- Demand 3's bound of a plain script by the entries alone, in preorder: the instructions that each node is lowered to, whatever its bodies say. Preorder.antt
 -- has the law that ties it to the tree's cost. Definitions only.
-use Rattle.std.specs.Prelude.{ℕ, zero, suc, ◌+◌, ◌*◌, ◌%◌, ◌≤◌, max, ◌≡◌, Bool, cond, ◌&&◌, ◌||◌, List, [], ◌∷◌, leb, eqb, length, drop}
+use Rattle.std.specs.Prelude.{ℕ, zero, suc, ◌+◌, ◌*◌, ◌%◌, max, ◌≡◌, Bool, cond, ◌&&◌, ◌||◌, List, [], ◌∷◌, leb, eqb}
 use Rattle.bound.specs.declared.Part.{Part}
 
 -- ---- one node of kind k with c children, under kind u
@@ -81,10 +81,10 @@ longest_entry (k ∷ (c ∷ es)) = max (items_of_entry k c) (longest_entry es)
 abbrev pub of_entries : List ℕ → ℕ
 of_entries es = cost_of (subtree 32 (max 1 (longest_entry es)) 0 es)
 
--- ---- the code's answers: sums modulo 2 to the power of 48, and the place behind
+-- ---- the code's answers: sums modulo 2 to the power of 48, and the entries behind
 
 abbrev pub limit : ℕ
 limit = 281474976710656
 
-pub data Counts (es : List ℕ) : Forest → Part → Type 0 where
-  counts : {n : ℕ} {ms : List ℕ} {r : Part} → r.cost ≡ n % limit → r.next ≤ length es → drop r.next es ≡ ms → Counts es (forest n ms) r
+pub data Counts : Forest → Part → Type 0 where
+  counts : {n : ℕ} {p : Part} → p.cost ≡ n % limit → Counts (forest n p.rest.now) p

@@ -1,28 +1,15 @@
-use native.Mathlib.Omega.{arith}
-use mathlib.Core.Path.{refl, ◌∙◌}
-use Prim.Native.Nat.{◌/◌}
-use lib.ListN.{length}
+use Rattle.std.proofs.Common.{◌/◌, length, refl, ◌∙◌}
 use Rattle.call_list.proofs.Carrying.{going_start, going_next, going_end}
 use Rattle.call_list.proofs.call_all.Goals as goal
 
 pub loop-i-init : goal.loop-i-init
 loop-i-init c =
-    (refl, going_start c.args.program.now c.args.calls.now c.args.state.now _ _ refl)
-
-pub overflow_mul-i : goal.overflow_mul-i
-overflow_mul-i c =
-    record { fits = omega (arith, c.well_formed, c.loop-i-test.true) }
-
-pub call_next-last-requires : goal.call_next-last-requires
-call_next-last-requires c = omega (arith, c.loop-i-test.true)
+    (refl, going_start c.args.program.now c.args.calls.now c.args.state.now _)
 
 pub loop-i-preserved : goal.loop-i-preserved
 loop-i-preserved c =
     let l = c.loop-i in
     (c.call_next-last.auto.state ∙ l.invariant.0, going_next c.args.program.now c.args.calls.now c.args.state.now (length c.args.calls.now / 16) l.i l.state l.last l.invariant.1 c.loop-i-test.true c.call_next-last.ensures)
-
-pub shape_of-state : goal.shape_of-state
-shape_of-state c = c.loop-i.invariant.0
 
 pub returns : goal.returns
 returns c =

@@ -1,10 +1,6 @@
-use mathlib.Core.Path.{refl}
-use Rattle.emit.specs.laws.Leaves.{ready_start, stored, name_stored}
+use Rattle.std.proofs.Common.{refl}
+use Rattle.emit.specs.laws.Leaves.{stored, name_stored}
 use Rattle.emit.proofs.put_name.Goals as goal
-
-pub push_at-requires : goal.push_at-requires
-push_at-requires c =
-    ready_start c.start.ensures c.requires.0
 
 pub returns : goal.returns
 returns c x v w e =

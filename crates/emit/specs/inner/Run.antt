@@ -71,6 +71,12 @@ pub record Did (es : List Event) (s : Low) (buf : List ℕ) (s' : Low) (buf' : L
   pub state : s' ≡ after_events es s
   pub buffer : buf' ≡ wrote es s buf
 
+-- an instruction with n items is pushed, once they are written to the pool where a record was; bs are the bytes of the record
+pub record PushesItems (k : Bool) (s : Low) (n : ℕ) (bs buf : List ℕ) (s' : Low) (buf₁ : List ℕ) : Type 0 where
+  pub did : (w : Place) (i : Instr) → length (items_of (op i)) ≡ n → bs ≡ encode_instr i s.items → k ≡ kept s.decls w.section → (buf₂ : List ℕ)
+      → buf₂ ≡ cond (ltb s.recs s'.recs) (splice buf₁ (16384 + 16 * s.items) (concat (map item_bytes (items_of (op i))))) buf₁ → Did (Push w i ∷ []) s buf s' buf₂
+  pub room : ltb s.recs s'.recs ≡ true → s.items + n ≤ 1024
+
 -- what `push_op` and `load` ensure: bs are the bytes of the record
 abbrev pub PushesOp : Bool → Low → List ℕ → List ℕ → Low → List ℕ → Type 0
 PushesOp k s bs buf s' buf' =

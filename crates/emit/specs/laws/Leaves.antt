@@ -1,9 +1,13 @@
 -- Leaves: an instruction that loads a value.
-use Rattle.std.specs.Prelude.{ℕ, ◌≡◌, Bool, true, false, cond, List, [], ◌∷◌, Float}
+use Rattle.std.specs.Prelude.{ℕ, ◌≡◌, refl, Bool, true, false, cond, List, [], ◌∷◌, Float}
 use Rattle.std.proofs.Common.{ap, sym}
 use Rattle.std.specs.Float.Ieee.{of_bits, to_bits}
 use Rattle.std.specs.Float.{binary64}
-use Rattle.sifv.specs.Value.{One, Bl, Num, Str}
+use Rattle.sifv.specs.Value.{Single, One, Bl, Num, Str}
+use Rattle.sifv.specs.Slot.{single_kind, word_of}
+use Rattle.sifv.specs.inner.Seen.{single_seen, word_in}
+use Rattle.sifv.specs.declared.SifVal.{SifVal}
+use Rattle.sifv.specs.declared.SifVal.TheVariants as show
 use Rattle.opc.specs.Op.{Op, Ldc, Ldn, Stc, Stn, instr}
 use Rattle.opc.specs.Record.{Fields, fields, field_bytes, items_of, encode_instr}
 use Rattle.compiler.specs.Lower.{Place, push, load}
@@ -56,3 +60,22 @@ name_stored e g j = rw e (ap field_bytes g)
 pub num_stored : {f : Fields} {n x word b v : ℕ} {z : Float} → b ≡ v → z ≡ of_bits binary64 v → word ≡ to_bits binary64 z → f ≡ fields n 9 1 x 0 0 0 word
     → (j : ℕ) → field_bytes f ≡ encode_instr (instr n (Stc (One (Num (of_bits binary64 b))) x)) j
 num_stored e h g k j = rw e (ap field_bytes (rw (g, h) at k))
+
+-- a single value's number is that of what it shows
+word_shown : (v : SifVal) → word_in v ≡ word_of (single_seen v)
+word_shown show.Empty = refl
+word_shown (show.Num x) = refl
+word_shown (show.Str t) = refl
+word_shown (show.Bl b) = refl
+word_shown show.Null = refl
+word_shown (show.Arr n) = refl
+word_shown (show.Tab n) = refl
+
+-- a literal loaded, and stored
+pub literal_bytes : {f : Fields} {n r kind word : ℕ} {x : Single} (v : SifVal) → single_seen v ≡ x → kind ≡ single_kind (single_seen v) → word ≡ word_in v
+    → f ≡ fields n 3 kind r 0 0 0 word → (j : ℕ) → field_bytes f ≡ encode_instr (instr n (Ldc r (One x))) j
+literal_bytes v e k q g j = rw (← e) (ap field_bytes (rw (k, q, word_shown v) at g))
+
+pub literal_stored : {f : Fields} {n r kind word : ℕ} {x : Single} (v : SifVal) → single_seen v ≡ x → kind ≡ single_kind (single_seen v) → word ≡ word_in v
+    → f ≡ fields n 9 kind r 0 0 0 word → (j : ℕ) → field_bytes f ≡ encode_instr (instr n (Stc (One x) r)) j
+literal_stored v e k q g j = rw (← e) (ap field_bytes (rw (k, q, word_shown v) at g))

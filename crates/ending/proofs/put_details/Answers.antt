@@ -1,18 +1,22 @@
-use mathlib.Core.Path.{sym, ◌∙◌}
-use mathlib.Core.List.{append-nil}
-use Rattle.text.specs.laws.PutLaws.{put_none}
-use Rattle.text.specs.laws.Joined.{put_three}
-use Rattle.ending.specs.laws.EndLaws.{three_details}
+use Rattle.std.proofs.Common.{◌≡◌, ℕ, ◌++◌, refl, ap, arith}
+use Rattle.lent.specs.Lists.{tabulate}
+use Rattle.text.specs.Text.{ascii, decimal, number_fields}
+use Rattle.text.specs.laws.Writing.{appended_as}
+use Rattle.text.specs.laws.Joined.{appended_turn}
+use Rattle.ending.specs.laws.EndLaws.{detail_at, details_row}
 use Rattle.ending.proofs.put_details.Goals as goal
 
-pub returns-then-n-eq0 : goal.returns-then-n-eq0
-returns-then-n-eq0 c = rw (sym c.detail_count-n.ensures ∙ c.if-n-eq0.true) (put_none _ _ c.requires.0)
+pub get_u64-requires : goal.get_u64-requires
+get_u64-requires c = let h = details_row c.args.report.now c.args.number in omega (arith, h.0)
 
-pub returns-then-n-eq1 : goal.returns-then-n-eq1
-returns-then-n-eq1 c =
-    rw (sym c.detail_count-n.ensures ∙ c.if-n-eq1.true, append-nil, ← c.get_u64.ensures) c.put_field-p.ensures
+pub loop-i-preserved : goal.loop-i-preserved
+loop-i-preserved c =
+    let f = detail_at c.args.report.now in
+    appended_turn (λ (i : ℕ). ascii " " ++ decimal (f i)) (λ (i n : ℕ). number_fields (tabulate i n f)) (λ i. refl) (λ i n. refl) c.loop-i.i c.loop-i.invariant
+    (rw (← c.get_u64.ensures) c.put_field.ensures)
 
 pub returns : goal.returns
 returns c =
-    rw (three_details c.args.number c.detail_count-n.ensures c.if-n-eq0.false c.if-n-eq1.false, append-nil, ← c.get_u64.ensures, ← c.get_u64-2.ensures, ← c.get_u64-3.ensures)
-    (put_three c.requires.0 c.put_field-p.ensures c.put_field-q.ensures c.put_field.ensures)
+    let h = details_row c.args.report.now c.args.number in
+    let e : c.loop-i.i ≡ c.detail_count-i-end.result = omega arith in
+    appended_as (ap number_fields h.1) (rw (e, c.detail_count-i-end.ensures) at c.loop-i.invariant)

@@ -1,15 +1,12 @@
-use mathlib.Core.Path.{sym, ◌∙◌}
-use borrow.Author.Tests.{ne_eqb}
+use Rattle.std.proofs.Common.{◌≡◌, get_or, ne_eqb, rules}
 use Rattle.ending.proofs.put_end.Goals as goal
 
-pub returns-then-answer-eq0 : goal.returns-then-answer-eq0
-returns-then-answer-eq0 c =
-    rw (sym c.wide-answer.ensures.0 ∙ c.if-answer-eq0.true) c.put_counted.ensures
+pub returns-in-1 : goal.returns-in-1
+returns-in-1 c = rw c.in-1.is c.put_stop.ensures
 
-pub returns-then-answer-eq1 : goal.returns-then-answer-eq1
-returns-then-answer-eq1 c =
-    rw (sym c.wide-answer.ensures.0 ∙ c.if-answer-eq1.true) c.put_stop.ensures
-
-pub returns : goal.returns
-returns c =
-    rw (← c.wide-answer.ensures.0, ne_eqb _ 0 c.if-answer-eq0.false, ne_eqb _ 1 c.if-answer-eq1.false) c.put_counted-2.ensures
+pub returns-in_default : goal.returns-in_default
+returns-in_default c =
+    let answer = get_or c.args.report.now 0 0 in
+    let not_0 : answer ≡ 0 → ⊥ = search rules in
+    let not_1 : answer ≡ 1 → ⊥ = search rules in
+    rw (ne_eqb answer 0 not_0, ne_eqb answer 1 not_1) c.put_line-in_default.ensures

@@ -3,5 +3,4 @@ use Rattle.ending.proofs.put_stop.Goals as goal
 
 pub returns : goal.returns
 returns c =
-    stop_put c.requires.0 c.args.report.now c.args.count c.wide-number.ensures.0 c.get_u64-line.ensures
-    c.put_all-p.ensures c.put_field-q.ensures c.put_field-s.ensures c.put_signed-t.ensures c.put_details-u.ensures c.put_all.ensures
+    stop_put c.args.report.now c.args.count c.put_words.ensures (rw (← c.get_u64.ensures) c.put_signed.ensures) c.put_details.ensures c.put_all.ensures

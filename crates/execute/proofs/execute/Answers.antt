@@ -1,5 +1,6 @@
 -- `execute::execute` meets its contract.
 use mathlib.Core.Path.{◌≡◌, sym, ap, ◌∙◌}
+use Rattle.std.proofs.Common.{inl, inr}
 use mathlib.Core.Bool.{true}
 use mathlib.Core.List.{List}
 use Prim.Native.Nat.{ℕ, ◌≤◌}
@@ -11,15 +12,14 @@ use Rattle.opc.specs.declared.Op.{Op}
 use Rattle.tables.specs.Tables.{label_at}
 use Rattle.vm.specs.Operation.{Ok, read}
 use Rattle.vm.specs.Machine as Machine
-use Rattle.execute.specs.inner.View.{names_of, view, Holds, Neat, Stepped}
+use Rattle.execute.specs.inner.View.{names_of, view, Holds, Neat, Stepped, GivenStep}
 use Rattle.execute.specs.laws.Laying.{length_stack, length_frames, canon_neat}
 use Rattle.execute.specs.laws.Acts.{reg_formed, reg_value, name_formed, name_value, loads_law, loadv_law, wrote_law, stores_law}
 use Rattle.execute.specs.laws.Stacks.{stored_as}
 use Rattle.execute.specs.laws.Tabled.{looked_law}
 use Rattle.execute.specs.inner.Means.{Means, op_at}
 use Rattle.execute.specs.laws.Programs.{means_at, step_at, jump_law, on_law}
-use Rattle.execute.specs.declared.Step.{Step}
-use Rattle.execute.specs.declared.Step.TheVariants as step
+use Rattle.std.specs.declared.result.Result.TheVariants as got
 use borrow.Author.Rules.{rules}
 use Rattle.tables.specs.ProgramBytes.{program_in}
 use Rattle.execute.specs.inner.ProgramView.{ProgramReady}
@@ -56,7 +56,7 @@ meant f e =
     means_at _ _ f.requires.0 _ f.requires.2 (sym e ∙ f.fetch-op.ensures)
 
 -- the step is the operation that the instruction means
-carried : (s : Start) {o : model.Op} {b' : List ℕ} {r : Step} → op_at (program_in s.args.program.now) s.args.loc.pos ≡ o → Stepped s.args.state.now b' (Machine.execute (program_in s.args.program.now) (view s.args.state.now s.args.loc) o) r
+carried : (s : Start) {o : model.Op} {b' : List ℕ} {r : GivenStep} → op_at (program_in s.args.program.now) s.args.loc.pos ≡ o → Stepped s.args.state.now b' (Machine.execute (program_in s.args.program.now) (view s.args.state.now s.args.loc) o) r
     → Stepped s.args.state.now b' (Machine.step (program_in s.args.program.now) (view s.args.state.now s.args.loc)) r
 carried s e h = step_at (program_in s.args.program.now) _ s.args.loc _ s.requires.2 e h
 
@@ -76,14 +76,14 @@ loads-requires-in-Unary c =
     let m = meant (goal.at.loads-requires-in-Unary c).After-fetch-op c.in-Unary.is in
     (neat (goal.at.loads-requires-in-Unary c).Start, near (goal.at.loads-requires-in-Unary c).Start, m.2)
 
-pub loadc-did-requires : goal.loadc-did-requires
-loadc-did-requires c = let m = meant (goal.at.loadc-did-requires c).After-fetch-op c.in-Ldc.is in (room (goal.at.loadc-did-requires c).Start, neat (goal.at.loadc-did-requires c).Start, m.1, m.2, m.3)
+pub loadc-requires : goal.loadc-requires
+loadc-requires c = let m = meant (goal.at.loadc-requires c).After-fetch-op c.in-Ldc.is in (room (goal.at.loadc-requires c).Start, neat (goal.at.loadc-requires c).Start, m.1, m.2, m.3)
 
-pub loadn-did-requires : goal.loadn-did-requires
-loadn-did-requires c = let m = meant (goal.at.loadn-did-requires c).After-fetch-op c.in-Ldn.is in (neat (goal.at.loadn-did-requires c).Start, m.1, m.2)
+pub loadn-requires : goal.loadn-requires
+loadn-requires c = let m = meant (goal.at.loadn-requires c).After-fetch-op c.in-Ldn.is in (neat (goal.at.loadn-requires c).Start, m.1, m.2)
 
-pub mv-did-requires : goal.mv-did-requires
-mv-did-requires c = let m = meant (goal.at.mv-did-requires c).After-fetch-op c.in-Mv.is in (neat (goal.at.mv-did-requires c).Start, m.1, m.2)
+pub mv-requires : goal.mv-requires
+mv-requires c = let m = meant (goal.at.mv-requires c).After-fetch-op c.in-Mv.is in (neat (goal.at.mv-requires c).Start, m.1, m.2)
 
 pub loadarrs-got-requires : goal.loadarrs-got-requires
 loadarrs-got-requires c = let m = meant (goal.at.loadarrs-got-requires c).After-fetch-op c.in-Ldas.is in (neat (goal.at.loadarrs-got-requires c).Start, m.1)
@@ -101,29 +101,29 @@ loads-requires-in-Ldav c =
     let m = meant (goal.at.loads-requires-in-Ldav c).After-fetch-op c.in-Ldav.is in
     (neat (goal.at.loads-requires-in-Ldav c).Start, near (goal.at.loads-requires-in-Ldav c).Start, m.3)
 
-pub newarrv-did-requires : goal.newarrv-did-requires
-newarrv-did-requires c = let m = meant (goal.at.newarrv-did-requires c).After-fetch-op c.in-Upda.is in (neat (goal.at.newarrv-did-requires c).Start, m.1, m.2, m.3)
+pub newarrv-requires : goal.newarrv-requires
+newarrv-requires c = let m = meant (goal.at.newarrv-requires c).After-fetch-op c.in-Upda.is in (neat (goal.at.newarrv-requires c).Start, m.1, m.2, m.3)
 
-pub storec-did-requires : goal.storec-did-requires
-storec-did-requires c = let m = meant (goal.at.storec-did-requires c).After-fetch-op c.in-Stc.is in (room (goal.at.storec-did-requires c).Start, neat (goal.at.storec-did-requires c).Start, m.1, m.2, m.3)
+pub storec-requires : goal.storec-requires
+storec-requires c = let m = meant (goal.at.storec-requires c).After-fetch-op c.in-Stc.is in (room (goal.at.storec-requires c).Start, neat (goal.at.storec-requires c).Start, m.1, m.2, m.3)
 
 pub slot-requires : goal.slot-requires
 slot-requires c = let m = meant (goal.at.slot-requires c).After-fetch-op c.in-Stn.is in m.1
 
-pub store-did-requires : goal.store-did-requires
-store-did-requires c =
-    let m = meant (goal.at.store-did-requires c).After-fetch-op c.in-Stn.is in
-    let f = name_formed _ (neat (goal.at.store-did-requires c).Start) _ m.1 c.slot.ensures in
-    (neat (goal.at.store-did-requires c).Start, m.2, f.0, f.1, omega (arith, c.slot.ensures))
+pub store-requires : goal.store-requires
+store-requires c =
+    let m = meant (goal.at.store-requires c).After-fetch-op c.in-Stn.is in
+    let f = name_formed _ (neat (goal.at.store-requires c).Start) _ m.1 c.slot.ensures in
+    (neat (goal.at.store-requires c).Start, m.2, f.0, f.1, omega (arith, c.slot.ensures))
 
 pub reg-requires : goal.reg-requires
 reg-requires c = let m = meant (goal.at.reg-requires c).After-fetch-op c.in-Str.is in m.1
 
-pub store-did-requires-in-Str : goal.store-did-requires-in-Str
-store-did-requires-in-Str c =
-    let m = meant (goal.at.store-did-requires-in-Str c).After-fetch-op c.in-Str.is in
-    let f = reg_formed _ (neat (goal.at.store-did-requires-in-Str c).Start) _ m.1 c.reg.ensures in
-    (neat (goal.at.store-did-requires-in-Str c).Start, m.2, f.0, f.1, omega (arith, c.reg.ensures))
+pub store-requires-in-Str : goal.store-requires-in-Str
+store-requires-in-Str c =
+    let m = meant (goal.at.store-requires-in-Str c).After-fetch-op c.in-Str.is in
+    let f = reg_formed _ (neat (goal.at.store-requires-in-Str c).Start) _ m.1 c.reg.ensures in
+    (neat (goal.at.store-requires-in-Str c).Start, m.2, f.0, f.1, omega (arith, c.reg.ensures))
 
 pub branch-program-requires : goal.branch-program-requires
 branch-program-requires c =
@@ -171,11 +171,11 @@ pop-requires c =
     let m = meant (goal.at.pop-requires c).After-fetch-op c.in-FnStackPop.is in
     (neat (goal.at.pop-requires c).Start, holds (goal.at.pop-requires c).Start, stack_max (goal.at.pop-requires c).Start, near (goal.at.pop-requires c).Start, m.1)
 
-pub tbli-did-requires : goal.tbli-did-requires
-tbli-did-requires c = let m = meant (goal.at.tbli-did-requires c).After-fetch-op c.in-Tbli.is in (neat (goal.at.tbli-did-requires c).Start, m.1, m.2, m.3, names_ok (goal.at.tbli-did-requires c).Start c.in-Tbli.tabname)
+pub tbli-requires : goal.tbli-requires
+tbli-requires c = let m = meant (goal.at.tbli-requires c).After-fetch-op c.in-Tbli.is in (neat (goal.at.tbli-requires c).Start, m.1, m.2, m.3, names_ok (goal.at.tbli-requires c).Start c.in-Tbli.tabname)
 
-pub tblg-did-requires : goal.tblg-did-requires
-tblg-did-requires c = let m = meant (goal.at.tblg-did-requires c).After-fetch-op c.in-Tblg.is in (neat (goal.at.tblg-did-requires c).Start, m.1, m.3, names_ok (goal.at.tblg-did-requires c).Start c.in-Tblg.tabname)
+pub tblg-requires : goal.tblg-requires
+tblg-requires c = let m = meant (goal.at.tblg-requires c).After-fetch-op c.in-Tblg.is in (neat (goal.at.tblg-requires c).Start, m.1, m.3, names_ok (goal.at.tblg-requires c).Start c.in-Tblg.tabname)
 
 pub returns-in-Binary : goal.returns-in-Binary
 returns-in-Binary c =
@@ -190,17 +190,17 @@ returns-in-Unary c =
 pub returns-in-Ldc : goal.returns-in-Ldc
 returns-in-Ldc c =
     let m = meant (goal.at.returns-in-Ldc c).After-fetch-op c.in-Ldc.is in
-    carried (goal.at.returns-in-Ldc c).Start m.0 (loadv_law _ c.args.loc (holds (goal.at.returns-in-Ldc c).Start) _ (Ok _) m.1 c.loadc-did.ensures c.stepped.ensures)
+    carried (goal.at.returns-in-Ldc c).Start m.0 (loadv_law _ c.args.loc (holds (goal.at.returns-in-Ldc c).Start) _ (Ok _) m.1 c.loadc.ensures (ap got.Ok c.on.ensures))
 
 pub returns-in-Ldn : goal.returns-in-Ldn
 returns-in-Ldn c =
     let m = meant (goal.at.returns-in-Ldn c).After-fetch-op c.in-Ldn.is in
-    carried (goal.at.returns-in-Ldn c).Start m.0 (loadv_law _ c.args.loc (holds (goal.at.returns-in-Ldn c).Start) _ (read (names_of c.args.state.now) c.in-Ldn.name) m.1 c.loadn-did.ensures c.stepped-in-Ldn.ensures)
+    carried (goal.at.returns-in-Ldn c).Start m.0 (loadv_law _ c.args.loc (holds (goal.at.returns-in-Ldn c).Start) _ (read (names_of c.args.state.now) c.in-Ldn.name) m.1 c.loadn.ensures c.stepped.ensures)
 
 pub returns-in-Mv : goal.returns-in-Mv
 returns-in-Mv c =
     let m = meant (goal.at.returns-in-Mv c).After-fetch-op c.in-Mv.is in
-    carried (goal.at.returns-in-Mv c).Start m.0 (wrote_law _ c.args.loc (holds (goal.at.returns-in-Mv c).Start) _ _ m.2 c.mv-did.ensures c.stepped-in-Mv.ensures)
+    carried (goal.at.returns-in-Mv c).Start m.0 (wrote_law _ c.args.loc (holds (goal.at.returns-in-Mv c).Start) _ _ m.2 c.mv.ensures (ap got.Ok c.on-in-Mv.ensures))
 
 pub returns-in-Ldas : goal.returns-in-Ldas
 returns-in-Ldas c =
@@ -215,22 +215,22 @@ returns-in-Ldav c =
 pub returns-in-Upda : goal.returns-in-Upda
 returns-in-Upda c =
     let m = meant (goal.at.returns-in-Upda c).After-fetch-op c.in-Upda.is in
-    carried (goal.at.returns-in-Upda c).Start m.0 (stores_law _ c.args.loc (holds (goal.at.returns-in-Upda c).Start) c.newarrv-did.ensures c.stepped-in-Upda.ensures)
+    carried (goal.at.returns-in-Upda c).Start m.0 (stores_law _ c.args.loc (holds (goal.at.returns-in-Upda c).Start) c.newarrv.ensures c.stepped-in-Upda.ensures)
 
 pub returns-in-Stc : goal.returns-in-Stc
 returns-in-Stc c =
     let m = meant (goal.at.returns-in-Stc c).After-fetch-op c.in-Stc.is in
-    carried (goal.at.returns-in-Stc c).Start m.0 (stores_law _ c.args.loc (holds (goal.at.returns-in-Stc c).Start) c.storec-did.ensures c.stepped-in-Stc.ensures)
+    carried (goal.at.returns-in-Stc c).Start m.0 (stores_law _ c.args.loc (holds (goal.at.returns-in-Stc c).Start) c.storec.ensures (ap got.Ok c.on-in-Stc.ensures))
 
 pub returns-in-Stn : goal.returns-in-Stn
 returns-in-Stn c =
     let m = meant (goal.at.returns-in-Stn c).After-fetch-op c.in-Stn.is in
-    carried (goal.at.returns-in-Stn c).Start m.0 (stores_law _ c.args.loc (holds (goal.at.returns-in-Stn c).Start) (stored_as _ _ (name_value _ (neat (goal.at.returns-in-Stn c).Start) _ m.1 c.slot.ensures) c.store-did.ensures) c.stepped-in-Stn.ensures)
+    carried (goal.at.returns-in-Stn c).Start m.0 (stores_law _ c.args.loc (holds (goal.at.returns-in-Stn c).Start) (stored_as _ _ (name_value _ (neat (goal.at.returns-in-Stn c).Start) _ m.1 c.slot.ensures) c.store.ensures) (ap got.Ok c.on-in-Stn.ensures))
 
 pub returns-in-Str : goal.returns-in-Str
 returns-in-Str c =
     let m = meant (goal.at.returns-in-Str c).After-fetch-op c.in-Str.is in
-    carried (goal.at.returns-in-Str c).Start m.0 (stores_law _ c.args.loc (holds (goal.at.returns-in-Str c).Start) (stored_as _ _ (reg_value _ (neat (goal.at.returns-in-Str c).Start) _ m.1 c.reg.ensures) c.store-did-in-Str.ensures) c.stepped-in-Str.ensures)
+    carried (goal.at.returns-in-Str c).Start m.0 (stores_law _ c.args.loc (holds (goal.at.returns-in-Str c).Start) (stored_as _ _ (reg_value _ (neat (goal.at.returns-in-Str c).Start) _ m.1 c.reg.ensures) c.store-in-Str.ensures) (ap got.Ok c.on-in-Str.ensures))
 
 pub returns-in-JmpCnd : goal.returns-in-JmpCnd
 returns-in-JmpCnd c =
@@ -280,22 +280,19 @@ returns-in-FnStackPop c =
 pub returns-in-Tbli : goal.returns-in-Tbli
 returns-in-Tbli c =
     let m = meant (goal.at.returns-in-Tbli c).After-fetch-op c.in-Tbli.is in
-    carried (goal.at.returns-in-Tbli c).Start m.0 (stores_law _ c.args.loc (holds (goal.at.returns-in-Tbli c).Start) c.tbli-did.ensures c.stepped-in-Tbli.ensures)
+    carried (goal.at.returns-in-Tbli c).Start m.0 (stores_law _ c.args.loc (holds (goal.at.returns-in-Tbli c).Start) c.tbli.ensures c.stepped-in-Tbli.ensures)
 
 pub returns-in-Tblg : goal.returns-in-Tblg
 returns-in-Tblg c =
     let m = meant (goal.at.returns-in-Tblg c).After-fetch-op c.in-Tblg.is in
-    carried (goal.at.returns-in-Tblg c).Start m.0 (looked_law _ c.args.loc (holds (goal.at.returns-in-Tblg c).Start) _ _ m.3 c.tblg-did.ensures c.stepped-in-Tblg.ensures)
+    carried (goal.at.returns-in-Tblg c).Start m.0 (looked_law _ c.args.loc (holds (goal.at.returns-in-Tblg c).Start) _ _ m.3 c.tblg.ensures c.stepped-in-Tblg.ensures)
 
 pub returns-in-Nop : goal.returns-in-Nop
 returns-in-Nop c =
-    let m = meant (goal.at.returns-in-Nop c).After-fetch-op c.in-Nop.is in
-    carried (goal.at.returns-in-Nop c).Start m (on_law _ c.args.loc (holds (goal.at.returns-in-Nop c).Start) (ap step.Goes c.on.ensures))
-
-pub returns-in-Stop : goal.returns-in-Stop
-returns-in-Stop c =
-    let m = meant (goal.at.returns-in-Stop c).After-fetch-op c.in-Stop.is in
-    carried (goal.at.returns-in-Stop c).Start m (on_law _ c.args.loc (holds (goal.at.returns-in-Stop c).Start) (ap step.Goes c.on-in-Stop.ensures))
+    let s = (goal.at.returns-in-Nop c).Start in
+    let f = (goal.at.returns-in-Nop c).After-fetch-op in
+    let h = on_law _ c.args.loc (holds s) (ap got.Ok c.on-in-Nop.ensures) in
+    elim c.in-Nop.is [ inl e ↦ carried s (meant f e) h | inr e ↦ carried s (meant f e) h ]
 
 pub returns-in-Bad : goal.returns-in-Bad
 returns-in-Bad c = absurd (meant (goal.at.returns-in-Bad c).After-fetch-op c.in-Bad.is)

@@ -1,5 +1,5 @@
 -- `execute::item` meets its contract.
-use mathlib.Core.Path.{sym, ap, ◌∙◌}
+use mathlib.Core.Path.{refl, sym, ap, ◌∙◌}
 use native.Mathlib.Omega.{arith}
 use mathlib.Core.Option.{Option}
 use Rattle.lent.specs.Bytes.{part}
@@ -8,7 +8,7 @@ use Rattle.sifv.specs.inner.Seen.{seen, kind_in}
 use Rattle.execute.specs.inner.View.{names_of}
 use Rattle.execute.specs.laws.Acts.{name_formed, name_value}
 use Rattle.execute.specs.laws.Arrays.{item_off, item_past, item_in_lem}
-use Rattle.execute.specs.declared.Got.TheVariants as got
+use Rattle.std.specs.declared.result.Result.TheVariants as got
 use Rattle.execute.proofs.item.Goals as goal
 
 pub kind_at-k-requires : goal.kind_at-k-requires
@@ -25,7 +25,7 @@ len_at-n-requires c =
 
 pub returns-then-n-i : goal.returns-then-n-i
 returns-then-n-i c =
-    item_past (part c.args.state.now c.slot-at.result 256) (name_formed _ c.requires.0 _ c.requires.1 c.slot-at.ensures).1 (sym c.kind_at-k.ensures ∙ c.if-k-ne5.false) (names_of c.args.state.now c.args.name) (name_value _ c.requires.0 _ c.requires.1 c.slot-at.ensures) c.args.name c.args.i c.len_at-n.result c.len_at-n.ensures c.if-n-i.true (ap got.Err c.index_out_of_bounds.ensures)
+    item_past (part c.args.state.now c.slot-at.result 256) (name_formed _ c.requires.0 _ c.requires.1 c.slot-at.ensures).1 (sym c.kind_at-k.ensures ∙ c.if-k-ne5.false) (names_of c.args.state.now c.args.name) (name_value _ c.requires.0 _ c.requires.1 c.slot-at.ensures) c.args.name c.args.i c.len_at-n.result c.len_at-n.ensures c.if-n-i.true refl
 
 pub item-requires : goal.item-requires
 item-requires c =

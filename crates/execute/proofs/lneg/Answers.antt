@@ -1,12 +1,12 @@
 -- `execute::lneg` meets its contract.
-use mathlib.Core.Path.{sym, ap, ◌∙◌}
+use mathlib.Core.Path.{refl, sym, ap, ◌∙◌}
 use mathlib.Core.Option.{Option}
 use Rattle.sifv.specs.Value.{Value}
 use Rattle.sifv.specs.inner.Seen.{seen, kind_in}
 use Rattle.execute.specs.inner.View.{regs_of}
 use Rattle.execute.specs.laws.Acts.{reg_formed, reg_value}
 use Rattle.execute.specs.laws.Readers.{lneg_off, lneg_on}
-use Rattle.execute.specs.declared.Got.TheVariants as got
+use Rattle.std.specs.declared.result.Result.TheVariants as got
 use Rattle.execute.proofs.lneg.Goals as goal
 
 pub kind_at-requires : goal.kind_at-requires
@@ -15,7 +15,7 @@ kind_at-requires c =
 
 pub returns-then-kind_at-ne3 : goal.returns-then-kind_at-ne3
 returns-then-kind_at-ne3 c =
-    lneg_off (regs_of c.args.state.now c.args.src1) (c.kind_at.ensures ∙ ap (λ (o : Option Value). kind_in (seen o)) (reg_value _ c.requires.0 _ c.requires.1 c.reg-at.ensures)) c.if-kind_at-ne3.true (ap got.Err c.ty_mismatch.ensures)
+    lneg_off (regs_of c.args.state.now c.args.src1) (c.kind_at.ensures ∙ ap (λ (o : Option Value). kind_in (seen o)) (reg_value _ c.requires.0 _ c.requires.1 c.reg-at.ensures)) c.if-kind_at-ne3.true refl
 
 pub truth_at-requires : goal.truth_at-requires
 truth_at-requires c =

@@ -12,7 +12,7 @@ use Rattle.execute.specs.inner.View.{names_of}
 use Rattle.execute.specs.laws.Acts.{name_formed, name_value}
 use Rattle.execute.specs.laws.Arrays.{arr_len}
 use Rattle.execute.specs.laws.Readers.{size_off, size_in_lem}
-use Rattle.execute.specs.declared.Got.TheVariants as got
+use Rattle.std.specs.declared.result.Result.TheVariants as got
 use Rattle.execute.proofs.loadarrs.Goals as goal
 
 pub kind_at-k-requires : goal.kind_at-k-requires

@@ -1,38 +1,13 @@
 -- `execute::loadc` meets its contract.
-use mathlib.Core.Path.{refl, subst}
-use Prim.Native.Nat.{ℕ, ◌<◌}
-use native.Mathlib.Omega.{arith}
-use Rattle.sifv.specs.Slot.{single_of}
+use mathlib.Core.Path.{refl}
 use Rattle.execute.specs.laws.Acts.{reg_formed}
-use Rattle.execute.specs.laws.Literals.{literal_single, stored_put, literal_reg}
-use Rattle.opc.specs.inner.Fetch.{record_at}
+use Rattle.execute.specs.laws.Literals.{literal_reg}
 use Rattle.execute.proofs.loadc.Goals as goal
 
-pub stored-requires : goal.stored-requires
-stored-requires c =
-    let b = c.args.program.now in
-    let k = c.args.val in
-    (omega (arith, c.requires.0), c.requires.3, (literal_single b k c.requires.4 (subst (λ (x : ℕ). x < 5) c.kind_of.ensures c.if-kind_of-lt5.true)).0)
-
-pub put-requires : goal.put-requires
-put-requires c =
-    reg_formed _ c.requires.1 _ c.requires.2 c.reg-at.ensures
-
-pub returns-then-kind_of-lt5 : goal.returns-then-kind_of-lt5
-returns-then-kind_of-lt5 c =
-    let b = c.args.program.now in
-    let k = c.args.val in
-    literal_reg c.args.state.now b k c.requires.4 refl (stored_put (single_of (record_at b k).kind (record_at b k).word) c.args.state.now c.reg-at.result c.stored.ensures (literal_single b k c.requires.4 (subst (λ (x : ℕ). x < 5) c.kind_of.ensures c.if-kind_of-lt5.true)).1 c.put.ensures) c.args.dest c.reg-at.ensures
-
-pub put_contents-requires : goal.put_contents-requires
-put_contents-requires c =
-    let b = c.args.program.now in
-    let k = c.args.val in
-    let f = reg_formed _ c.requires.1 _ c.requires.2 c.reg-at.ensures in
-    (c.requires.0, f.0, f.1, c.requires.3, c.requires.4, λ z. omega (arith, c.if-kind_of-lt5.false, c.kind_of.ensures, z))
+pub put_literal-requires : goal.put_literal-requires
+put_literal-requires c =
+    let f = reg_formed _ c.requires.1 _ c.requires.2 c.reg.ensures in (c.requires.0, f.0, f.1, c.requires.3, c.requires.4)
 
 pub returns : goal.returns
 returns c =
-    let b = c.args.program.now in
-    let k = c.args.val in
-    literal_reg c.args.state.now b k c.requires.4 refl c.put_contents.ensures c.args.dest c.reg-at.ensures
+    literal_reg c.args.state.now c.args.program.now c.args.val c.requires.4 refl c.put_literal.ensures c.args.dest c.reg.ensures

@@ -1,9 +1,8 @@
 -- `execute::loadn` meets its contract.
-use mathlib.Core.Path.{refl, ap}
+use mathlib.Core.Path.{refl}
 use Prim.Native.Nat.{◌+◌, ◌*◌}
 use native.Mathlib.Omega.{arith}
 use Rattle.execute.specs.laws.Acts.{name_formed, reg_formed, loadn_none, loadn_some}
-use Rattle.execute.specs.declared.Did.TheVariants as did
 use Rattle.execute.proofs.loadn.Goals as goal
 
 pub kind_at-requires : goal.kind_at-requires
@@ -12,7 +11,7 @@ kind_at-requires c =
 
 pub returns-then-kind_at-eq0 : goal.returns-then-kind_at-eq0
 returns-then-kind_at-eq0 c =
-    loadn_none c.args.state.now c.requires.0 c.args.name (0 + c.args.dest * 256) c.requires.2 c.slot.ensures c.kind_at.ensures c.if-kind_at-eq0.true (ap did.Err c.invalid_name.ensures) refl
+    loadn_none c.args.state.now c.requires.0 c.args.name (0 + c.args.dest * 256) c.requires.2 c.slot.ensures c.kind_at.ensures c.if-kind_at-eq0.true refl refl
 
 pub move_to-requires : goal.move_to-requires
 move_to-requires c =

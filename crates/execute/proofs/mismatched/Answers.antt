@@ -1,30 +1,26 @@
 -- `execute::mismatched` meets its contract.
-use mathlib.Core.Path.{ap}
+use Rattle.std.proofs.Common.{◌≡◌, refl}
+use Rattle.sifv.specs.Value.{Value}
+use Rattle.sifv.specs.inner.Seen.{bare}
+use Rattle.sifv.specs.declared.SifVal.{SifVal}
+use Rattle.sifv.specs.declared.SifVal.TheVariants as show
+use Rattle.vm.specs.RuntimeErr.{RuntimeErr, RegNoContents, TyMismatch}
+use Rattle.vm.specs.Operation.{Err, full}
 use Rattle.execute.specs.inner.View.{err}
-use Rattle.execute.specs.declared.Got.TheVariants as got
-use borrow.Author.Rules.{rules}
 use Rattle.execute.proofs.mismatched.Goals as goal
 
-pub enum_told-1 : goal.enum_told-1
-enum_told-1 c = search rules
+-- no operator takes what is not empty
+off : (e : RuntimeErr) (w : SifVal) → (w ≡ show.Empty → ⊥) → full {A = Value} e (bare w) (λ _. Err TyMismatch) ≡ Err TyMismatch
+off e show.Empty h = absurd (h refl)
+off e (show.Num y) h = refl
+off e (show.Str y) h = refl
+off e (show.Bl y) h = refl
+off e show.Null h = refl
+off e (show.Arr y) h = refl
+off e (show.Tab y) h = refl
 
 pub returns-in-Empty : goal.returns-in-Empty
-returns-in-Empty c = rw c.in-Empty.is (err (ap got.Err c.reg_no_contents.ensures))
+returns-in-Empty c = rw c.in-Empty.is (err refl)
 
-pub returns-in-Num : goal.returns-in-Num
-returns-in-Num c = rw c.in-Num.is (err (ap got.Err c.ty_mismatch.ensures))
-
-pub returns-in-Str : goal.returns-in-Str
-returns-in-Str c = rw c.in-Str.is (err (ap got.Err c.ty_mismatch-in-Str.ensures))
-
-pub returns-in-Bl : goal.returns-in-Bl
-returns-in-Bl c = rw c.in-Bl.is (err (ap got.Err c.ty_mismatch-in-Bl.ensures))
-
-pub returns-in-Null : goal.returns-in-Null
-returns-in-Null c = rw c.in-Null.is (err (ap got.Err c.ty_mismatch-in-Null.ensures))
-
-pub returns-in-Arr : goal.returns-in-Arr
-returns-in-Arr c = rw c.in-Arr.is (err (ap got.Err c.ty_mismatch-in-Arr.ensures))
-
-pub returns-in-Tab : goal.returns-in-Tab
-returns-in-Tab c = rw c.in-Tab.is (err (ap got.Err c.ty_mismatch-in-Tab.ensures))
+pub returns-in_default : goal.returns-in_default
+returns-in_default c = rw (off (RegNoContents c.args.src2) c.args.w c.in_default.not-Empty) (err refl)

@@ -6,8 +6,7 @@ use Rattle.sifv.specs.inner.Seen.{seen, kind_in}
 use Rattle.numeric.proofs.laws.IndexLaws.{told_at, told_none}
 use Rattle.execute.specs.inner.View.{regs_of}
 use Rattle.execute.specs.laws.Acts.{reg_formed, reg_value, kind_none}
-use Rattle.execute.specs.laws.Arrays.{newarrv_index, newarrv_none, newarrv_no_index, newarrv_at}
-use Rattle.execute.specs.declared.Did.TheVariants as did
+use Rattle.execute.specs.laws.Arrays.{index_none, newarrv_index, newarrv_none, newarrv_no_index, newarrv_at}
 use Rattle.execute.proofs.newarrv.Goals as goal
 use Rattle.execute.proofs.newarrv.Goals.{After-number_at, Else-kind_at-eq0, Start}
 
@@ -26,7 +25,7 @@ kind_at-requires c =
 
 pub returns-then-kind_at-ne1 : goal.returns-then-kind_at-ne1
 returns-then-kind_at-ne1 c =
-    newarrv_index c.args.state.now c.args.name (regs_of c.args.state.now c.args.idx) (regs_of c.args.state.now c.args.val) (c.kind_at.ensures ∙ ap (λ (o : Option Value). kind_in (seen o)) (reg_value _ c.requires.0 _ c.requires.2 c.reg-at.ensures)) c.if-kind_at-ne1.true (ap did.Err c.ty_mismatch.ensures) refl
+    newarrv_index c.args.state.now c.args.name (regs_of c.args.state.now c.args.idx) (regs_of c.args.state.now c.args.val) (c.kind_at.ensures ∙ ap (λ (o : Option Value). kind_in (seen o)) (reg_value _ c.requires.0 _ c.requires.2 c.reg-at.ensures)) c.if-kind_at-ne1.true refl refl
 
 pub kind_at-requires-2 : goal.kind_at-requires-2
 kind_at-requires-2 c =
@@ -34,7 +33,7 @@ kind_at-requires-2 c =
 
 pub returns-then-kind_at-eq0 : goal.returns-then-kind_at-eq0
 returns-then-kind_at-eq0 c =
-    newarrv_none c.args.state.now c.args.name (regs_of c.args.state.now c.args.idx) (regs_of c.args.state.now c.args.val) (kind_none (regs_of c.args.state.now c.args.val) (sym (c.kind_at-2.ensures ∙ ap (λ (o : Option Value). kind_in (seen o)) (reg_value _ c.requires.0 _ c.requires.3 c.reg.ensures)) ∙ c.if-kind_at-eq0.true)) (ap did.Err c.ty_mismatch-then-kind_at-eq0.ensures) refl
+    newarrv_none c.args.state.now c.args.name (regs_of c.args.state.now c.args.idx) (regs_of c.args.state.now c.args.val) (kind_none (regs_of c.args.state.now c.args.val) (sym (c.kind_at-2.ensures ∙ ap (λ (o : Option Value). kind_in (seen o)) (reg_value _ c.requires.0 _ c.requires.3 c.reg.ensures)) ∙ c.if-kind_at-eq0.true)) refl refl
 
 pub number_at-requires : goal.number_at-requires
 number_at-requires c =
@@ -44,12 +43,12 @@ pub update-requires : goal.update-requires
 update-requires c =
     (c.requires.0, c.requires.1, c.requires.3, value_in (goal.at.update-requires c).Else-kind_at-eq0)
 
-pub returns-in-At : goal.returns-in-At
-returns-in-At c =
-    let s = (goal.at.returns-in-At c).Start in
-    newarrv_at s.args.state.now s.args.name (regs_of s.args.state.now s.args.idx) (regs_of s.args.state.now s.args.val) (number_in (goal.at.returns-in-At c).After-number_at) (told_at _ c.index_of.ensures c.in-At.is) c.update.ensures
+pub returns : goal.returns
+returns c =
+    let s = (goal.at.returns c).Start in
+    newarrv_at s.args.state.now s.args.name (regs_of s.args.state.now s.args.idx) (regs_of s.args.state.now s.args.val) (number_in (goal.at.returns c).After-number_at) (told_at _ c.index_of.ensures c.in-Some.is) c.update.ensures
 
-pub returns-in-None : goal.returns-in-None
-returns-in-None c =
-    let s = (goal.at.returns-in-None c).Start in
-    newarrv_no_index s.args.state.now s.args.name (regs_of s.args.state.now s.args.idx) (regs_of s.args.state.now s.args.val) (number_in (goal.at.returns-in-None c).After-number_at) (told_none _ c.index_of.ensures c.in-None.is) (value_in (goal.at.returns-in-None c).Else-kind_at-eq0) (ap did.Err c.no_index.ensures) refl
+pub returns-in_default : goal.returns-in_default
+returns-in_default c =
+    let s = (goal.at.returns-in_default c).Start in
+    newarrv_no_index s.args.state.now s.args.name (regs_of s.args.state.now s.args.idx) (regs_of s.args.state.now s.args.val) (number_in (goal.at.returns-in_default c).After-number_at) (told_none _ c.index_of.ensures (index_none _ c.in_default.not-Some)) (value_in (goal.at.returns-in_default c).Else-kind_at-eq0) refl refl

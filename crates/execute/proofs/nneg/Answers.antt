@@ -1,12 +1,12 @@
 -- `execute::nneg` meets its contract.
-use mathlib.Core.Path.{sym, ap, ◌∙◌}
+use mathlib.Core.Path.{refl, sym, ap, ◌∙◌}
 use mathlib.Core.Option.{Option}
 use Rattle.sifv.specs.Value.{Value}
 use Rattle.sifv.specs.inner.Seen.{seen, kind_in}
 use Rattle.execute.specs.inner.View.{regs_of}
 use Rattle.execute.specs.laws.Acts.{reg_formed, reg_value}
 use Rattle.execute.specs.laws.Readers.{nneg_off, nneg_on}
-use Rattle.execute.specs.declared.Got.TheVariants as got
+use Rattle.std.specs.declared.result.Result.TheVariants as got
 use Rattle.execute.proofs.nneg.Goals as goal
 
 pub kind_at-requires : goal.kind_at-requires
@@ -15,7 +15,7 @@ kind_at-requires c =
 
 pub returns-then-kind_at-ne1 : goal.returns-then-kind_at-ne1
 returns-then-kind_at-ne1 c =
-    nneg_off (regs_of c.args.state.now c.args.src1) (c.kind_at.ensures ∙ ap (λ (o : Option Value). kind_in (seen o)) (reg_value _ c.requires.0 _ c.requires.1 c.reg-at.ensures)) c.if-kind_at-ne1.true (ap got.Err c.ty_mismatch.ensures)
+    nneg_off (regs_of c.args.state.now c.args.src1) (c.kind_at.ensures ∙ ap (λ (o : Option Value). kind_in (seen o)) (reg_value _ c.requires.0 _ c.requires.1 c.reg-at.ensures)) c.if-kind_at-ne1.true refl
 
 pub number_at-requires : goal.number_at-requires
 number_at-requires c =

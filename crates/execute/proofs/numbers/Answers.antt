@@ -1,9 +1,9 @@
 -- `execute::numbers` meets its contract.
-use mathlib.Core.Path.{ap, ◌∙◌}
+use Rattle.std.proofs.Common.{refl, ap, ◌∙◌, inl, inr}
 use lib.Ieee.{Float}
 use Rattle.execute.specs.inner.View.{ok, err}
 use Rattle.sifv.specs.inner.StoredForm.{stored_of}
-use Rattle.execute.specs.declared.Got.TheVariants as got
+use Rattle.std.specs.declared.result.Result.TheVariants as got
 use Rattle.sifv.specs.declared.SifVal.TheVariants as show
 use borrow.Author.Rules.{rules}
 use Rattle.execute.proofs.numbers.Goals as goal
@@ -45,10 +45,4 @@ pub returns-in-Gt : goal.returns-in-Gt
 returns-in-Gt c = rw c.in-Gt.is (ok (ap got.Ok c.pack-in-Gt.ensures))
 
 pub returns-in-Land : goal.returns-in-Land
-returns-in-Land c = rw c.in-Land.is (err (ap got.Err c.ty_mismatch.ensures))
-
-pub returns-in-Lnot : goal.returns-in-Lnot
-returns-in-Lnot c = rw c.in-Lnot.is (err (ap got.Err c.ty_mismatch-in-Lnot.ensures))
-
-pub returns-in-Lor : goal.returns-in-Lor
-returns-in-Lor c = rw c.in-Lor.is (err (ap got.Err c.ty_mismatch-in-Lor.ensures))
+returns-in-Land c = elim c.in-Land.is [ inl e ↦ rw e (err refl) | inr s ↦ elim s [ inl e ↦ rw e (err refl) | inr e ↦ rw e (err refl) ] ]

@@ -1,40 +1,31 @@
 -- `execute::others` meets its contract.
-use mathlib.Core.Path.{refl, ap}
-use mathlib.Core.List.{[]}
+use Rattle.std.proofs.Common.{◌≡◌, Bool, [], refl}
 use Rattle.sifv.specs.Value.{One, Null, Arr, Tab, Num, Str}
 use Rattle.sifv.specs.inner.Seen.{bare, kind_in}
-use Rattle.vm.specs.RuntimeErr.{RegNoContents}
-use Rattle.execute.specs.inner.View.{bin_model, err}
+use Rattle.sifv.specs.declared.SifVal.{SifVal}
+use Rattle.sifv.specs.declared.SifVal.TheVariants as show
+use Rattle.opc.specs.Op as model
+use Rattle.vm.specs.RuntimeErr.{RuntimeErr, RegNoContents, TyMismatch}
+use Rattle.vm.specs.Operation.{Err, binary, full}
+use Rattle.execute.specs.inner.View.{bin_model, ReadsSingle, err, GivenGot}
 use Rattle.execute.specs.laws.Acts.{off_law, off_null, off_num, off_str}
-use Rattle.execute.specs.declared.Got.TheVariants as got
-use borrow.Author.Rules.{rules}
 use Rattle.execute.proofs.others.Goals as goal
 
-pub enum_told-1 : goal.enum_told-1
-enum_told-1 c = search rules
+-- no operator takes two that are not two numbers, the first neither empty nor a yes/no
+off : (k : model.BinOpKind) (x y : RuntimeErr) (v w : SifVal) {r : GivenGot} → (v ≡ show.Empty → ⊥) → ((t : Bool) → v ≡ show.Bl t → ⊥) → (kind_in v ≡ 1 → kind_in w ≡ 1 → ⊥)
+    → ReadsSingle (full y (bare w) (λ _. Err TyMismatch)) r → ReadsSingle (full x (bare v) (λ t. full y (bare w) (λ u. binary k t u))) r
+off k x y show.Empty w h g n q = absurd (h refl)
+off k x y (show.Num a) w h g n q = off_law k y (One (Num a)) (bare w) (off_num k a w (n refl)) q
+off k x y (show.Str a) w h g n q = off_law k y (One (Str a)) (bare w) (λ u e. off_str k a u) q
+off k x y (show.Bl a) w h g n q = absurd (g a refl)
+off k x y show.Null w h g n q = off_law k y (One Null) (bare w) (λ u e. off_null k u) q
+off k x y (show.Arr a) w h g n q = off_law k y (Arr []) (bare w) (λ u e. refl) q
+off k x y (show.Tab a) w h g n q = off_law k y (Tab []) (bare w) (λ u e. refl) q
 
 pub returns-in-Empty : goal.returns-in-Empty
-returns-in-Empty c = rw c.in-Empty.is (err (ap got.Err c.reg_no_contents.ensures))
+returns-in-Empty c = rw c.in-Empty.is (err refl)
 
-pub returns-in-Num : goal.returns-in-Num
-returns-in-Num c =
-    rw c.in-Num.is (off_law (bin_model c.args.kind) (RegNoContents c.args.src2) (One (Num c.in-Num.field-0)) (bare c.args.w) (off_num (bin_model c.args.kind) c.in-Num.field-0 c.args.w (c.requires (ap kind_in c.in-Num.is))) c.mismatched.ensures)
-
-pub returns-in-Str : goal.returns-in-Str
-returns-in-Str c =
-    rw c.in-Str.is (off_law (bin_model c.args.kind) (RegNoContents c.args.src2) (One (Str c.in-Str.field-0)) (bare c.args.w) (λ u e. off_str (bin_model c.args.kind) c.in-Str.field-0 u) c.mismatched-in-Str.ensures)
-
-pub returns-in-Bl : goal.returns-in-Bl
-returns-in-Bl c = rw c.in-Bl.is c.with_truth.ensures
-
-pub returns-in-Null : goal.returns-in-Null
-returns-in-Null c =
-    rw c.in-Null.is (off_law (bin_model c.args.kind) (RegNoContents c.args.src2) (One Null) (bare c.args.w) (λ u e. off_null (bin_model c.args.kind) u) c.mismatched-in-Null.ensures)
-
-pub returns-in-Arr : goal.returns-in-Arr
-returns-in-Arr c =
-    rw c.in-Arr.is (off_law (bin_model c.args.kind) (RegNoContents c.args.src2) (Arr []) (bare c.args.w) (λ u e. refl) c.mismatched-in-Arr.ensures)
-
-pub returns-in-Tab : goal.returns-in-Tab
-returns-in-Tab c =
-    rw c.in-Tab.is (off_law (bin_model c.args.kind) (RegNoContents c.args.src2) (Tab []) (bare c.args.w) (λ u e. refl) c.mismatched-in-Tab.ensures)
+pub returns-in_default : goal.returns-in_default
+returns-in_default c =
+    let a = c.args in
+    off (bin_model a.kind) (RegNoContents a.src1) (RegNoContents a.src2) a.v a.w c.in_default.not-Empty c.in_default.not-Bl c.requires c.mismatched.ensures

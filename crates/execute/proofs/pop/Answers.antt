@@ -4,7 +4,7 @@ use Prim.Native.Nat.{◌+◌, ◌*◌, ◌-◌, ◌<◌}
 use native.Mathlib.Omega.{arith}
 use Rattle.execute.specs.laws.Acts.{reg_formed}
 use Rattle.execute.specs.laws.Stacks.{popped_none, popped_some, kept_formed}
-use Rattle.execute.specs.declared.Step.TheVariants as step
+use Rattle.std.specs.declared.result.Result.TheVariants as got
 use Rattle.execute.proofs.pop.Goals as goal
 
 pub set-requires : goal.set-requires
@@ -13,7 +13,7 @@ set-requires c =
 
 pub returns-then-depth-eq0 : goal.returns-then-depth-eq0
 returns-then-depth-eq0 c =
-    popped_none c.args.state.now c.args.loc c.requires.1 c.args.dest c.requires.4 c.if-depth-eq0.true c.reg-to.ensures (ap step.Goes c.on.ensures) c.set.ensures
+    popped_none c.args.state.now c.args.loc c.requires.1 c.args.dest c.requires.4 c.if-depth-eq0.true c.reg-to.ensures (ap got.Ok c.on.ensures) c.set.ensures
 
 pub move_to-requires : goal.move_to-requires
 move_to-requires c =

@@ -1,9 +1,8 @@
 -- `execute::push` meets its contract.
-use mathlib.Core.Path.{refl, ap}
+use mathlib.Core.Path.{refl}
 use native.Mathlib.Omega.{arith}
 use Rattle.execute.specs.laws.Acts.{reg_formed}
 use Rattle.execute.specs.laws.Stacks.{pushed_none, pushed_full, pushed_on}
-use Rattle.execute.specs.declared.Step.TheVariants as step
 use Rattle.execute.proofs.push.Goals as goal
 
 pub kind_at-requires : goal.kind_at-requires
@@ -12,11 +11,11 @@ kind_at-requires c =
 
 pub returns-then-kind_at-eq0 : goal.returns-then-kind_at-eq0
 returns-then-kind_at-eq0 c =
-    pushed_none c.args.state.now c.args.loc c.requires.1 c.requires.0 c.args.src c.requires.4 c.reg-from.ensures c.kind_at.ensures c.if-kind_at-eq0.true (ap step.Stops c.empty_register.ensures) refl
+    pushed_none c.args.state.now c.args.loc c.requires.1 c.requires.0 c.args.src c.requires.4 c.reg-from.ensures c.kind_at.ensures c.if-kind_at-eq0.true refl refl
 
 pub returns-then-depth-ge-VALUE_STACK : goal.returns-then-depth-ge-VALUE_STACK
 returns-then-depth-ge-VALUE_STACK c =
-    pushed_full c.args.state.now c.args.loc c.requires.1 c.requires.0 c.args.src c.requires.4 c.reg-from.ensures c.kind_at.ensures c.if-kind_at-eq0.false c.if-depth-ge-VALUE_STACK.true (ap step.Stops c.stack_full.ensures) refl
+    pushed_full c.args.state.now c.args.loc c.requires.1 c.requires.0 c.args.src c.requires.4 c.reg-from.ensures c.kind_at.ensures c.if-kind_at-eq0.false c.if-depth-ge-VALUE_STACK.true refl refl
 
 pub move_to-requires : goal.move_to-requires
 move_to-requires c =

@@ -24,7 +24,7 @@ bounds-state-at-2 c =
 
 pub loop-i-init : goal.loop-i-init
 loop-i-init c =
-    (omega arith, (fill_start c.args.state.now c.args.at 5 c.args.len c.requires.1 c.zero.ensures refl refl).same, refl)
+    ((fill_start c.args.state.now c.args.at 5 c.args.len c.requires.1 c.zero.ensures refl refl).same, refl)
 
 pub overflow_add-start : goal.overflow_add-start
 overflow_add-start c =
@@ -32,26 +32,19 @@ overflow_add-start c =
 
 pub put_item-requires : goal.put_item-requires
 put_item-requires c =
-    let f = fill_start c.args.state.now c.args.at 5 c.args.len c.requires.1 c.zero.ensures refl refl in (c.requires.0, omega (arith, c.requires.1, c.loop-i.invariant.2, f.long), omega (arith, c.requires.2.few, c.loop-i-test.true), omega (arith, c.requires.2.ends, c.loop-i-test.true), (pool_entry c.args.program.now c.args.len c.args.first c.loop-i.i c.requires.2 c.loop-i-test.true).0)
-
-pub overflow_add-i : goal.overflow_add-i
-overflow_add-i c =
-    omega (arith, c.requires.2.few, c.loop-i-test.true)
-
-pub loop-i-smaller : goal.loop-i-smaller
-loop-i-smaller c = omega (arith, c.loop-i-test.true)
+    let f = fill_start c.args.state.now c.args.at 5 c.args.len c.requires.1 c.zero.ensures refl refl in (c.requires.0, omega (arith, c.requires.1, c.loop-i.invariant.1, f.long), omega (arith, c.requires.2.few, c.loop-i-test.true), omega (arith, c.requires.2.ends, c.loop-i-test.true), (pool_entry c.args.program.now c.args.len c.args.first c.loop-i.i c.requires.2 c.loop-i-test.true).0)
 
 pub loop-i-preserved : goal.loop-i-preserved
 loop-i-preserved c =
     let f = fill_start c.args.state.now c.args.at 5 c.args.len c.requires.1 c.zero.ensures refl refl in
     let m = items_length c.requires.2 in
-    let t = fill_turn (set (set c.zero.new.d c.args.at 5) (c.args.at + 1) c.args.len) c.args.at 5 c.args.len c.loop-i.i (or_none (item_list c.args.len (drop (c.args.first * 16) (pool_of c.args.program.now)))) (omega (arith, c.requires.1, f.long)) (omega (arith, m, c.loop-i-test.true)) (omega (arith, c.requires.2.few, c.loop-i-test.true)) c.loop-i.invariant.1 (pool_entry c.args.program.now c.args.len c.args.first c.loop-i.i c.requires.2 c.loop-i-test.true).1 c.put_item.ensures in
-    (omega (arith, c.loop-i-test.true), t.0, t.1)
+    let t = fill_turn (set (set c.zero.new.d c.args.at 5) (c.args.at + 1) c.args.len) c.args.at 5 c.args.len c.loop-i.i (or_none (item_list c.args.len (drop (c.args.first * 16) (pool_of c.args.program.now)))) (omega (arith, c.requires.1, f.long)) (omega (arith, m, c.loop-i-test.true)) (omega (arith, c.requires.2.few, c.loop-i-test.true)) c.loop-i.invariant.0 (pool_entry c.args.program.now c.args.len c.args.first c.loop-i.i c.requires.2 c.loop-i-test.true).1 c.put_item.ensures in
+    (t.0, t.1)
 
 pub shape_of-state : goal.shape_of-state
 shape_of-state c =
-    let f = fill_start c.args.state.now c.args.at 5 c.args.len c.requires.1 c.zero.ensures refl refl in c.loop-i.invariant.2 ∙ f.long
+    let f = fill_start c.args.state.now c.args.at 5 c.args.len c.requires.1 c.zero.ensures refl refl in c.loop-i.invariant.1 ∙ f.long
 
 pub returns : goal.returns
 returns c =
-    fill_end c.args.state.now c.args.at c.args.len c.loop-i.i (or_none (item_list c.args.len (drop (c.args.first * 16) (pool_of c.args.program.now)))) c.requires.1 c.requires.2.few (items_length c.requires.2) (omega (arith, c.loop-i.invariant.0, c.loop-i-test.false)) (fill_start c.args.state.now c.args.at 5 c.args.len c.requires.1 c.zero.ensures refl refl) c.loop-i.invariant.1
+    fill_end c.args.state.now c.args.at c.args.len c.loop-i.i (or_none (item_list c.args.len (drop (c.args.first * 16) (pool_of c.args.program.now)))) c.requires.1 c.requires.2.few (items_length c.requires.2) (omega (arith, c.loop-i-test.false)) (fill_start c.args.state.now c.args.at 5 c.args.len c.requires.1 c.zero.ensures refl refl) c.loop-i.invariant.0

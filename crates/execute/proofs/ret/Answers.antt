@@ -1,14 +1,13 @@
 -- `execute::ret` meets its contract.
-use mathlib.Core.Path.{refl, ap}
+use mathlib.Core.Path.{refl}
 use Prim.Native.Nat.{◌-◌}
 use native.Mathlib.Omega.{arith}
 use Rattle.execute.specs.laws.Stacks.{returned_none, returned_on}
-use Rattle.execute.specs.declared.Step.TheVariants as step
 use Rattle.execute.proofs.ret.Goals as goal
 
 pub returns-then-calls-eq0 : goal.returns-then-calls-eq0
 returns-then-calls-eq0 c =
-    returned_none c.args.state.now c.args.loc c.requires.0 c.if-calls-eq0.true (ap step.Stops c.empty_call_stack.ensures) refl
+    returned_none c.args.state.now c.args.loc c.requires.0 c.if-calls-eq0.true refl refl
 
 pub returns : goal.returns
 returns c =

@@ -8,7 +8,7 @@ use Rattle.sifv.specs.inner.Seen.{seen, single_seen, kind_in, set_item}
 use Rattle.execute.specs.inner.View.{regs_of}
 use Rattle.execute.specs.laws.Acts.{reg_formed, reg_value, name_formed, name_value}
 use Rattle.execute.specs.laws.Arrays.{arr_len, update_off, update_past, update_multi, update_in}
-use Rattle.execute.specs.declared.Did.TheVariants as did
+use Rattle.std.specs.declared.result.Result.TheVariants as got
 use Rattle.execute.proofs.update.Goals as goal
 
 pub kind_at-k-requires : goal.kind_at-k-requires
@@ -17,7 +17,7 @@ kind_at-k-requires c =
 
 pub returns-then-k-ne5 : goal.returns-then-k-ne5
 returns-then-k-ne5 c =
-    update_off c.args.state.now c.args.name c.args.i (regs_of c.args.state.now c.args.val) c.requires.3 (c.kind_at-k.ensures ∙ ap (λ (o : Option Value). kind_in (seen o)) (name_value _ c.requires.0 _ c.requires.1 c.slot-at.ensures)) c.if-k-ne5.true (ap did.Err c.no_array.ensures) refl
+    update_off c.args.state.now c.args.name c.args.i (regs_of c.args.state.now c.args.val) c.requires.3 (c.kind_at-k.ensures ∙ ap (λ (o : Option Value). kind_in (seen o)) (name_value _ c.requires.0 _ c.requires.1 c.slot-at.ensures)) c.if-k-ne5.true (ap got.Err c.no_array.ensures) refl
 
 pub len_at-len-requires : goal.len_at-len-requires
 len_at-len-requires c =
@@ -25,7 +25,7 @@ len_at-len-requires c =
 
 pub returns-then-len-i : goal.returns-then-len-i
 returns-then-len-i c =
-    update_past c.args.state.now c.args.name c.args.i (regs_of c.args.state.now c.args.val) c.requires.3 (part c.args.state.now c.slot-at.result 256) (name_formed _ c.requires.0 _ c.requires.1 c.slot-at.ensures).1 (sym c.kind_at-k.ensures ∙ c.if-k-ne5.false) (name_value _ c.requires.0 _ c.requires.1 c.slot-at.ensures) c.len_at-len.ensures c.if-len-i.true (ap did.Err c.index_out_of_bounds.ensures) refl
+    update_past c.args.state.now c.args.name c.args.i (regs_of c.args.state.now c.args.val) c.requires.3 (part c.args.state.now c.slot-at.result 256) (name_formed _ c.requires.0 _ c.requires.1 c.slot-at.ensures).1 (sym c.kind_at-k.ensures ∙ c.if-k-ne5.false) (name_value _ c.requires.0 _ c.requires.1 c.slot-at.ensures) c.len_at-len.ensures c.if-len-i.true refl refl
 
 pub kind_at-requires : goal.kind_at-requires
 kind_at-requires c =
@@ -33,7 +33,7 @@ kind_at-requires c =
 
 pub returns-then-kind_at-ge5 : goal.returns-then-kind_at-ge5
 returns-then-kind_at-ge5 c =
-    update_multi c.args.state.now c.args.name c.args.i (regs_of c.args.state.now c.args.val) c.requires.3 (part c.args.state.now c.slot-at.result 256) (name_formed _ c.requires.0 _ c.requires.1 c.slot-at.ensures).1 (sym c.kind_at-k.ensures ∙ c.if-k-ne5.false) (name_value _ c.requires.0 _ c.requires.1 c.slot-at.ensures) c.len_at-len.ensures c.if-len-i.false (c.kind_at.ensures ∙ ap (λ (o : Option Value). kind_in (seen o)) (reg_value _ c.requires.0 _ c.requires.2 c.reg-from.ensures)) c.if-kind_at-ge5.true (ap did.Err c.nested.ensures) refl
+    update_multi c.args.state.now c.args.name c.args.i (regs_of c.args.state.now c.args.val) c.requires.3 (part c.args.state.now c.slot-at.result 256) (name_formed _ c.requires.0 _ c.requires.1 c.slot-at.ensures).1 (sym c.kind_at-k.ensures ∙ c.if-k-ne5.false) (name_value _ c.requires.0 _ c.requires.1 c.slot-at.ensures) c.len_at-len.ensures c.if-len-i.false (c.kind_at.ensures ∙ ap (λ (o : Option Value). kind_in (seen o)) (reg_value _ c.requires.0 _ c.requires.2 c.reg-from.ensures)) c.if-kind_at-ge5.true refl refl
 
 pub store_item-requires : goal.store_item-requires
 store_item-requires c =

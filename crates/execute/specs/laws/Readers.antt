@@ -10,11 +10,10 @@ use Rattle.sifv.specs.inner.StoredForm.{stored_of}
 use Rattle.opc.specs.Op as model
 use Rattle.vm.specs.RuntimeErr.{RuntimeErr, InvalidName, NotAnArray, TyMismatch}
 use Rattle.vm.specs.Operation.{Got, Ok, Err, Names, held, array, unary, moved, size, full}
-use Rattle.execute.specs.inner.View.{given, ReadsSingle, ok, err}
+use Rattle.execute.specs.inner.View.{given, ReadsSingle, ok, err, GivenGot}
 use Rattle.execute.specs.laws.Acts.{kind_none}
 use Rattle.execute.specs.laws.Arrays.{array_off, arr_is, arr_len}
-use Rattle.execute.specs.declared.Got.{Got as GivenGot}
-use Rattle.execute.specs.declared.Got.TheVariants as got
+use Rattle.std.specs.declared.result.Result.TheVariants as got
 use Rattle.numeric.specs.Whole.{whole}
 use Rattle.sifv.specs.inner.Forms.{Formed, len_in}
 

@@ -1,6 +1,6 @@
 use native.Mathlib.Omega.{arith}
 use mathlib.Core.Path.{◌≡◌, refl, ap}
-use Prim.Native.Nat.{◌-◌, suc}
+use Prim.Native.Nat.{◌+◌, ◌-◌, suc}
 use Rattle.emit.specs.declared.Done.{Done}
 use Rattle.emit.specs.laws.Spell.{length_from}
 use Rattle.emit.specs.laws.Leaves.{ready_start}
@@ -10,9 +10,9 @@ use Rattle.expr.specs.inner.Parts as part
 use Rattle.expr.proofs.Exprs.{one_asks, one_ready, call_one, un_made, bin_room, bin_roomb, bin_reads₁, bin_cont₁, bin_reads₂, bin_ready₂, bin_made, operand_goes, operand_reads, operand_within}
 use Rattle.expr.proofs.Exprs.{mut_room, mut_roomb, mut_skips, mut_reads₁, mut_reads₂, mut_ready₃, mut_made, params_none, par_reads, par_next, par_ready, par_goes, call_ready₂, call_made}
 use Rattle.expr.proofs.Exprs.{asg_made, reads_room, mut_asks, call_asks, asg_asks, bin_asks, un_asks, num_asks, text_asks, name_asks}
-use Rattle.expr.proofs.Exprs.{mut_front, call_front, asg_front, bin_front, un_front, num_front, text_front, name_front, true_front, false_front, arg_front, none_front}
+use Rattle.expr.proofs.Exprs.{mut_front, call_front, asg_front, bin_front, un_front, lit_front, name_front, truth_front, arg_front, none_front}
 use Rattle.expr.proofs.Rights.{front_ready, str_front, acc_made, acc_loads, tab_room, tab_cont, tab_reads, tab_made, items_none, items_room, item_reads, item_ready, item_next, item_goes}
-use Rattle.expr.proofs.Rights.{right_reads, tab_asks, acc_asks, exp_reads, tab_front, acc_front, num_stores, text_stores, name_stores, bl_stores, expr_stores}
+use Rattle.expr.proofs.Rights.{right_reads, tab_asks, acc_asks, exp_reads, tab_front, acc_front, lit_stores, name_stores, expr_stores}
 use Rattle.expr.proofs.+arrayaccess_arraymutexpr_assign_assign_at_binarg_binarg_at_binop_expr_expr_assign_expr_at_fncallexpr_match_table_assign_params_table_items_unop_varassign.Goals as goal
 
 pub arrayaccess-bounds-bodies-0 : goal.arrayaccess-bounds-bodies-0
@@ -140,22 +140,6 @@ assign-arrayaccess-requires t c =
 pub assign-returns-then-kind-eq-KIND_ARRAY_ACCESS : goal.assign-returns-then-kind-eq-KIND_ARRAY_ACCESS
 assign-returns-then-kind-eq-KIND_ARRAY_ACCESS t c = c.arrayaccess.ensures
 
-pub assign-put_num-requires : goal.assign-put_num-requires
-assign-put_num-requires t c =
-    (c.requires.ready, num_asks (exp_reads c.requires c.if-kind-eq-KIND_TABLE.false c.if-kind-eq-KIND_ARRAY.false c.if-kind-eq-KIND_ARRAY_ACCESS.false) c.if-kind-eq-KIND_NUM.true)
-
-pub assign-returns-then-kind-eq-KIND_NUM : goal.assign-returns-then-kind-eq-KIND_NUM
-assign-returns-then-kind-eq-KIND_NUM t c =
-    num_stores c.if-kind-eq-KIND_NUM.true c.put_num.ensures
-
-pub assign-put_text-requires : goal.assign-put_text-requires
-assign-put_text-requires t c =
-    (c.requires.ready, text_asks (exp_reads c.requires c.if-kind-eq-KIND_TABLE.false c.if-kind-eq-KIND_ARRAY.false c.if-kind-eq-KIND_ARRAY_ACCESS.false) c.if-kind-eq-KIND_TEXT.true)
-
-pub assign-returns-then-kind-eq-KIND_TEXT : goal.assign-returns-then-kind-eq-KIND_TEXT
-assign-returns-then-kind-eq-KIND_TEXT t c =
-    text_stores c.if-kind-eq-KIND_TEXT.true c.put_text.ensures
-
 pub assign-put_name-requires : goal.assign-put_name-requires
 assign-put_name-requires t c =
     (c.requires.ready, name_asks (exp_reads c.requires c.if-kind-eq-KIND_TABLE.false c.if-kind-eq-KIND_ARRAY.false c.if-kind-eq-KIND_ARRAY_ACCESS.false) c.if-kind-eq-KIND_NAME.true)
@@ -164,13 +148,14 @@ pub assign-returns-then-kind-eq-KIND_NAME : goal.assign-returns-then-kind-eq-KIN
 assign-returns-then-kind-eq-KIND_NAME t c =
     name_stores c.if-kind-eq-KIND_NAME.true c.put_name.ensures
 
-pub assign-put_bl-requires : goal.assign-put_bl-requires
-assign-put_bl-requires t c =
-    c.requires.ready
+pub assign-put_literal-requires : goal.assign-put_literal-requires
+assign-put_literal-requires t c =
+    let r = exp_reads c.requires c.if-kind-eq-KIND_TABLE.false c.if-kind-eq-KIND_ARRAY.false c.if-kind-eq-KIND_ARRAY_ACCESS.false in
+    (c.requires.ready, num_asks r, text_asks r)
 
-pub assign-returns-then-kind-gt-KIND_NAME : goal.assign-returns-then-kind-gt-KIND_NAME
-assign-returns-then-kind-gt-KIND_NAME t c =
-    bl_stores c.if-kind-gt-KIND_NAME.true c.put_bl.ensures
+pub assign-returns-then-kind-ge-KIND_NUM : goal.assign-returns-then-kind-ge-KIND_NUM
+assign-returns-then-kind-ge-KIND_NUM t c =
+    lit_stores c.if-kind-eq-KIND_NAME.false c.if-kind-ge-KIND_NUM.true c.put_literal.ensures
 
 pub assign-expr_assign-requires : goal.assign-expr_assign-requires
 assign-expr_assign-requires t c =
@@ -178,7 +163,7 @@ assign-expr_assign-requires t c =
 
 pub assign-returns : goal.assign-returns
 assign-returns t c =
-    expr_stores c.if-kind-eq-KIND_TABLE.false c.if-kind-eq-KIND_ARRAY.false c.if-kind-eq-KIND_ARRAY_ACCESS.false c.if-kind-eq-KIND_NUM.false c.if-kind-eq-KIND_TEXT.false c.if-kind-eq-KIND_NAME.false c.if-kind-gt-KIND_NAME.false
+    expr_stores c.if-kind-eq-KIND_TABLE.false c.if-kind-eq-KIND_ARRAY.false c.if-kind-eq-KIND_ARRAY_ACCESS.false c.if-kind-ge-KIND_NUM.false
     c.expr_assign.ensures
 
 pub assign_at-slice_bounds-assign-count : goal.assign_at-slice_bounds-assign-count
@@ -215,21 +200,13 @@ pub binarg-bounds-contents-0 : goal.binarg-bounds-contents-0
 binarg-bounds-contents-0 t c =
     omega (arith, reads_room c.requires)
 
-pub binarg-load_bl-requires : goal.binarg-load_bl-requires
-binarg-load_bl-requires t c =
-    c.requires.ready
+pub binarg-load_literal-requires : goal.binarg-load_literal-requires
+binarg-load_literal-requires t c =
+    (c.requires.ready, num_asks c.requires, text_asks c.requires)
 
-pub binarg-returns-then-kind-eq-KIND_TRUE : goal.binarg-returns-then-kind-eq-KIND_TRUE
-binarg-returns-then-kind-eq-KIND_TRUE t c =
-    true_front c.if-kind-eq-KIND_TRUE.true c.load_bl.ensures
-
-pub binarg-load_bl-requires-then-kind-eq-KIND_FALSE : goal.binarg-load_bl-requires-then-kind-eq-KIND_FALSE
-binarg-load_bl-requires-then-kind-eq-KIND_FALSE t c =
-    c.requires.ready
-
-pub binarg-returns-then-kind-eq-KIND_FALSE : goal.binarg-returns-then-kind-eq-KIND_FALSE
-binarg-returns-then-kind-eq-KIND_FALSE t c =
-    false_front c.if-kind-eq-KIND_FALSE.true c.load_bl-then-kind-eq-KIND_FALSE.ensures
+pub binarg-returns-then-kind : goal.binarg-returns-then-kind
+binarg-returns-then-kind t c =
+    truth_front c.if-kind.true c.load_literal.ensures
 
 pub binarg-expr-requires : goal.binarg-expr-requires
 binarg-expr-requires t c =
@@ -237,7 +214,7 @@ binarg-expr-requires t c =
 
 pub binarg-returns : goal.binarg-returns
 binarg-returns t c =
-    arg_front c.if-kind-eq-KIND_TRUE.false c.if-kind-eq-KIND_FALSE.false c.expr.ensures
+    arg_front c.if-kind.false c.expr.ensures
 
 pub binarg_at-slice_bounds-binarg-count : goal.binarg_at-slice_bounds-binarg-count
 binarg_at-slice_bounds-binarg-count t c = c.requires.cont
@@ -334,21 +311,13 @@ expr-unop-requires t c =
 pub expr-returns-then-kind-eq-KIND_UNARY : goal.expr-returns-then-kind-eq-KIND_UNARY
 expr-returns-then-kind-eq-KIND_UNARY t c = c.unop.ensures
 
-pub expr-load_num-requires : goal.expr-load_num-requires
-expr-load_num-requires t c =
-    (c.requires.ready, num_asks c.requires c.if-kind-eq-KIND_NUM.true)
+pub expr-load_literal-requires : goal.expr-load_literal-requires
+expr-load_literal-requires t c =
+    (c.requires.ready, num_asks c.requires, text_asks c.requires)
 
-pub expr-returns-then-kind-eq-KIND_NUM : goal.expr-returns-then-kind-eq-KIND_NUM
-expr-returns-then-kind-eq-KIND_NUM t c =
-    num_front c.if-kind-eq-KIND_NUM.true c.load_num.ensures
-
-pub expr-load_text-requires : goal.expr-load_text-requires
-expr-load_text-requires t c =
-    (c.requires.ready, text_asks c.requires c.if-kind-eq-KIND_TEXT.true)
-
-pub expr-returns-then-kind-eq-KIND_TEXT : goal.expr-returns-then-kind-eq-KIND_TEXT
-expr-returns-then-kind-eq-KIND_TEXT t c =
-    text_front c.if-kind-eq-KIND_TEXT.true c.load_text.ensures
+pub expr-returns-then-kind : goal.expr-returns-then-kind
+expr-returns-then-kind t c =
+    lit_front c.if-kind.true c.load_literal.ensures
 
 pub expr-load_name-requires : goal.expr-load_name-requires
 expr-load_name-requires t c =
@@ -361,7 +330,7 @@ expr-returns-then-kind-eq-KIND_NAME t c =
 pub expr-returns : goal.expr-returns
 expr-returns t c =
     none_front c.start.ensures c.if-kind-eq-KIND_ARRAY_MUT.false c.if-kind-eq-KIND_CALL.false c.if-kind-eq-KIND_ASSIGN.false c.if-kind-eq-KIND_BINARY.false c.if-kind-eq-KIND_UNARY.false
-    c.if-kind-eq-KIND_NUM.false c.if-kind-eq-KIND_TEXT.false c.if-kind-eq-KIND_NAME.false
+    c.if-kind.false c.if-kind-eq-KIND_NAME.false
 
 pub expr_assign-expr-a-requires : goal.expr_assign-expr-a-requires
 expr_assign-expr-a-requires t c =
@@ -453,87 +422,95 @@ match_table_assign-returns t c =
     tab_front c.requires.contents_value (λ is h. tab_made h c.requires.reads.ready c.start-p.ensures c.fields_of-f.ensures
     c.push_at-a.ensures c.table_items.ensures)
 
-pub params-loop-more-init : goal.params-loop-more-init
-params-loop-more-init t c = (refl, left_start c.requires)
+pub params-loop-init : goal.params-loop-init
+params-loop-init t c = let z : c.args.n - 0 ≡ c.args.n = omega arith in (refl, rw z (left_start c.requires))
 
 pub params-expr_at-a-requires : goal.params-expr_at-a-requires
 params-expr_at-a-requires t c =
-    let l = c.loop-more in
-    let z : l.more ≡ 0 → ⊥ = λ e. omega (arith, e) in
+    let l = c.loop in
+    let m = c.args.n - l.counter in
+    let z : m ≡ 0 → ⊥ = λ e. omega (arith, e) in
     (omega (arith, l.invariant.1.behind), par_reads z l.invariant.1.reads)
 
 pub params-push_at-q-requires : goal.params-push_at-q-requires
 params-push_at-q-requires t c =
-    let l = c.loop-more in
-    let z : l.more ≡ 0 → ⊥ = λ e. omega (arith, e) in
+    let l = c.loop in
+    let m = c.args.n - l.counter in
+    let z : m ≡ 0 → ⊥ = λ e. omega (arith, e) in
     par_ready c.expr_at-a.ensures z l.invariant.1.reads
 
-pub params-loop-more-preserved : goal.params-loop-more-preserved
-params-loop-more-preserved t c =
-    let l = c.loop-more in
+pub params-loop-preserved : goal.params-loop-preserved
+params-loop-preserved t c =
+    let l = c.loop in
+    let m = c.args.n - l.counter in
     let g = c.expr_at-a.ensures in
     let f = rw c.prevreg.ensures at c.fields_of-f.ensures in
     let u = c.push_at-q in
-    let z : l.more ≡ suc (l.more - 1) = omega arith in
+    let z : m ≡ suc (c.args.n - (l.counter + 1)) = omega arith in
     let n = par_next g f u.ensures z l.invariant.1.reads in
     (omega (arith, u.auto, c.expr_at-a.auto, l.invariant.0), left_turn l.invariant.1 (omega (arith, n.0)) n.1 (λ r d x. par_goes g f u.ensures z x))
 
 pub params-shape_of-out : goal.params-shape_of-out
-params-shape_of-out t c = c.loop-more.invariant.0
+params-shape_of-out t c = c.loop.invariant.0
 
 pub params-returns : goal.params-returns
-params-returns t c = left_end c.loop-more.invariant.1 (params_none (omega arith))
+params-returns t c = left_end c.loop.invariant.1 (params_none (omega arith))
 
-pub table_items-loop-more-init : goal.table_items-loop-more-init
-table_items-loop-more-init t c = (refl, left_start c.requires)
+pub table_items-loop-init : goal.table_items-loop-init
+table_items-loop-init t c = let z : c.args.n - 0 ≡ c.args.n = omega arith in (refl, rw z (left_start c.requires))
 
 pub table_items-bounds-bodies-at : goal.table_items-bounds-bodies-at
 table_items-bounds-bodies-at t c =
-    let l = c.loop-more in
-    let z : l.more ≡ 0 → ⊥ = λ e. omega (arith, e) in
+    let l = c.loop in
+    let m = c.args.n - l.counter in
+    let z : m ≡ 0 → ⊥ = λ e. omega (arith, e) in
     omega (arith, (items_room z l.invariant.1.reads).1)
 
 pub table_items-pass-i-requires : goal.table_items-pass-i-requires
 table_items-pass-i-requires t c =
-    let l = c.loop-more in
-    let z : l.more ≡ 0 → ⊥ = λ e. omega (arith, e) in
+    let l = c.loop in
+    let m = c.args.n - l.counter in
+    let z : m ≡ 0 → ⊥ = λ e. omega (arith, e) in
     let q = items_room z l.invariant.1.reads in
     (omega (arith, q.0), omega (arith, q.1))
 
 pub table_items-expr_at-a-requires : goal.table_items-expr_at-a-requires
 table_items-expr_at-a-requires t c =
     let a = c.args in
-    let l = c.loop-more in
+    let l = c.loop in
+    let m = c.args.n - l.counter in
     let i = c.pass-i.ensures in
-    let z : l.more ≡ 0 → ⊥ = λ e. omega (arith, e) in
-    (omega (arith, l.invariant.1.behind, ap (λ (d : Done). d.cont) i), item_reads l.more a.x a.contents.now a.bodies.now l.q i z l.invariant.1.reads)
+    let z : m ≡ 0 → ⊥ = λ e. omega (arith, e) in
+    (omega (arith, l.invariant.1.behind, ap (λ (d : Done). d.cont) i), item_reads m a.x a.contents.now a.bodies.now l.q i z l.invariant.1.reads)
 
 pub table_items-push_at-q-requires : goal.table_items-push_at-q-requires
 table_items-push_at-q-requires t c =
     let a = c.args in
-    let l = c.loop-more in
-    let z : l.more ≡ 0 → ⊥ = λ e. omega (arith, e) in
-    item_ready l.more a.x a.contents.now a.bodies.now l.q c.pass-i.ensures c.expr_at-a.ensures z l.invariant.1.reads
+    let l = c.loop in
+    let m = c.args.n - l.counter in
+    let z : m ≡ 0 → ⊥ = λ e. omega (arith, e) in
+    item_ready m a.x a.contents.now a.bodies.now l.q c.pass-i.ensures c.expr_at-a.ensures z l.invariant.1.reads
 
-pub table_items-loop-more-preserved : goal.table_items-loop-more-preserved
-table_items-loop-more-preserved t c =
+pub table_items-loop-preserved : goal.table_items-loop-preserved
+table_items-loop-preserved t c =
     let a = c.args in
-    let l = c.loop-more in
+    let l = c.loop in
+    let m = c.args.n - l.counter in
     let h = c.pass-i.ensures in
     let g = c.expr_at-a.ensures in
     let f = rw c.prevreg.ensures at c.fields_of-f.ensures in
     let u = c.push_at-q in
-    let z : l.more ≡ suc (l.more - 1) = omega (arith, c.loop-more-test.true) in
-    let n = item_next l.more a.x a.contents.now a.bodies.now l.q h g f u.ensures z l.invariant.1.reads in (
+    let z : m ≡ suc (c.args.n - (l.counter + 1)) = omega (arith, c.loop-test.true) in
+    let n = item_next m a.x a.contents.now a.bodies.now l.q h g f u.ensures z l.invariant.1.reads in (
       omega (arith, u.auto, c.expr_at-a.auto, l.invariant.0),
-      left_turn l.invariant.1 (omega (arith, n.0)) n.1 (λ r d x. item_goes l.more a.x a.contents.now a.bodies.now l.q h g f u.ensures z x),
+      left_turn l.invariant.1 (omega (arith, n.0)) n.1 (λ r d x. item_goes m a.x a.contents.now a.bodies.now l.q h g f u.ensures z x),
     )
 
 pub table_items-shape_of-out : goal.table_items-shape_of-out
-table_items-shape_of-out t c = c.loop-more.invariant.0
+table_items-shape_of-out t c = c.loop.invariant.0
 
 pub table_items-returns : goal.table_items-returns
-table_items-returns t c = left_end c.loop-more.invariant.1 (items_none (omega arith))
+table_items-returns t c = left_end c.loop.invariant.1 (items_none (omega arith))
 
 pub unop-bounds-bodies-0 : goal.unop-bounds-bodies-0
 unop-bounds-bodies-0 t c =

@@ -44,20 +44,14 @@ decreases-match_table_assign l = length l.contents.now * 8 + 0
 abbrev pub decreases-params : goal.decreases-params
 decreases-params l = (length l.contents.now - l.p.cont) * 8 + 5
 
-abbrev pub invariant-params-loop-more : goal.invariant-params-loop-more
-invariant-params-loop-more l = (length l.out ≡ length l.initial.out) × LoopLeft (part.param_parts l.n) (part.param_parts l.more) l.contents l.bodies l.keep l.initial.q l.initial.out l.q l.out
-
-abbrev pub decreases-params-loop-more : goal.decreases-params-loop-more
-decreases-params-loop-more l = l.more
+abbrev pub invariant-params-loop : goal.invariant-params-loop
+invariant-params-loop l = (length l.out ≡ length l.initial.out) × LoopLeft (part.param_parts l.n) (part.param_parts (l.n - l.counter)) l.contents l.bodies l.keep l.initial.q l.initial.out l.q l.out
 
 abbrev pub decreases-table_items : goal.decreases-table_items
 decreases-table_items l = (length l.contents.now - l.p.cont) * 8 + 5
 
-abbrev pub invariant-table_items-loop-more : goal.invariant-table_items-loop-more
-invariant-table_items-loop-more l = (length l.out ≡ length l.initial.out) × LoopLeft (part.item_parts l.n l.x) (part.item_parts l.more l.x) l.contents l.bodies l.keep l.initial.q l.initial.out l.q l.out
-
-abbrev pub decreases-table_items-loop-more : goal.decreases-table_items-loop-more
-decreases-table_items-loop-more l = l.more
+abbrev pub invariant-table_items-loop : goal.invariant-table_items-loop
+invariant-table_items-loop l = (length l.out ≡ length l.initial.out) × LoopLeft (part.item_parts l.n l.x) (part.item_parts (l.n - l.counter) l.x) l.contents l.bodies l.keep l.initial.q l.initial.out l.q l.out
 
 abbrev pub decreases-unop : goal.decreases-unop
 decreases-unop l = length l.contents.now * 8 + 0

@@ -1,5 +1,5 @@
 -- The laws of `compile`: both passes, tables and counts of a tree make its program's buffer.
-use Rattle.std.specs.Prelude.{ℕ, ◌+◌, ◌*◌, ◌≤◌, ◌<◌, ◌≡◌, refl, Bool, true, false, cond, List, [], ◌∷◌, ◌++◌, map, length, drop, replicate}
+use Rattle.std.specs.Prelude.{ℕ, suc, leb, ◌+◌, ◌*◌, ◌≤◌, ◌<◌, ◌≡◌, refl, Bool, true, false, cond, List, [], ◌∷◌, ◌++◌, map, length, drop, replicate}
 use Rattle.std.proofs.Common.{sym, ap, ◌∙◌, arith, length-append, drop_at}
 use Rattle.std.proofs.lemmas.List.{length-replicate}
 use Rattle.lent.specs.Bytes.{be_bytes, part, splice, concat}
@@ -233,7 +233,7 @@ module _ (t : Stmts) (rest b₀ : List ℕ) (w : StmtsIn t) (f : length (flat t)
     one_is : (after_events (lower_tree t) one_pass).refused ≡ refusal (lower_tree t) 0 0
     one_is = refused_first (lower_tree t) one_pass refl (record { few = omega arith; room = omega (arith, all_items) })
 
-    one_number : e.refused ≡ refusal (lower_tree t) 0 0
+    pub one_number : e.refused ≡ refusal (lower_tree t) 0 0
     one_number = pass_number one_pass e b₂ did one_is
 
     pub one_refused : (e.refused ≡ 0 → ⊥) → Compiled t rest e.refused b₂
@@ -277,3 +277,14 @@ module _ (t : Stmts) (rest b₀ : List ℕ) (w : StmtsIn t) (f : length (flat t)
 
       pub one_gives : (b₅ : List ℕ) → b₅ ≡ finished (program_of (lower_tree t)).code e.recs 0 b₂ → Compiled t rest 0 b₅
       one_gives b₅ q = compiled_gives d b₁ did₁ n e b₂ did₂ b₅ (q ∙ ap (λ (x : ℕ). finished (program_of (lower_tree t)).code e.recs x b₂) (sym none_written))
+
+-- a refusal that is neither 0 nor 6 is 7
+seven_or : (b : Bool) {x y : ℕ} → x ≡ cond b 7 y → (x ≡ y → 7 ≡ x) → 7 ≡ x
+seven_or true h f = sym h
+seven_or false h f = f h
+
+pub refusal_last : (es : List Event) (r k x : ℕ) → x ≡ refusal es r k → (x ≡ 0 → ⊥) → (x ≡ 6 → ⊥) → 7 ≡ x
+refusal_last [] r k x e h g = absurd (h e)
+refusal_last (Reg ∷ es) r k x e h g = seven_or (leb 96 r) e (λ f. refusal_last es (suc r) k x f h g)
+refusal_last (Push w i ∷ es) r k x e h g = seven_or (leb 1024 k) e (λ f. refusal_last es r (suc k) x f h g)
+refusal_last (Below ∷ es) r k x e h g = absurd (g e)

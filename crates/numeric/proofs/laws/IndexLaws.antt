@@ -1,7 +1,7 @@
 -- Laws of the index from a number, document 02, M-103. The numbers with an index are minus zero and the whole numbers from 0 up to below 2^64, and no others
 -- (`index_only`, `index_every`); no number of binary64 has an index above 18446744073709549568 (`index_largest`); a whole number up to 2^53 is its own index
 -- (`index_whole`).
-use Rattle.std.specs.Prelude.{◌≡◌, ℕ, suc, ◌+◌, ◌-◌, ◌*◌, ◌/◌, ◌%◌, ◌^◌, ◌<◌, ◌≤◌, Bool, true, false, cond, not, ◌&&◌, T, ◌⊎◌, pos, negsuc, ◌==◌, nat_lt, refl, Float}
+use Rattle.std.specs.Prelude.{◌≡◌, ℕ, suc, ◌+◌, ◌-◌, ◌*◌, ◌/◌, ◌%◌, ◌^◌, ◌<◌, ◌≤◌, Bool, true, false, cond, not, ◌&&◌, T, ◌⊎◌, pos, negsuc, ◌==◌, nat_lt, refl, Float, Option as Told, Some, None}
 use Rattle.std.proofs.Common.{sym, ap, ap₂, ◌∙◌, subst, true≢false, inl, inr, mul-one, zero-mul, mul_assoc, mul-div_cancel, div-add-mod', mul-le-mul_left, arith, eq-eqb, lt-ltb, eqb→eq, ltb→lt, nltb→le, pow-add, pow_pos}
 use Rattle.std.proofs.Math.Option.{Option, none, some, none-ne-some, some-injective}
 use Rattle.std.proofs.Math.Nat.{mul-mod_left, eq_of_mul-eq-mul_right}
@@ -11,8 +11,6 @@ use Rattle.std.specs.Float.Ieee.{up, down, fits}
 use Rattle.std.specs.Float.Ieee.Fits.{up_pos, down_pos}
 use Rattle.std.specs.Float.Ieee.Exact.{HasValue}
 use Rattle.numeric.specs.Index.{index_of, index_told, whole_quotient}
-use Rattle.numeric.specs.declared.Index.{Index}
-use Rattle.numeric.specs.declared.Index.TheVariants as index
 use Rattle.numeric.specs.Whole.{whole}
 use Rattle.numeric.specs.laws.WholeLaws.{whole_value}
 use Rattle.numeric.specs.laws.Exact.{held}
@@ -115,16 +113,16 @@ index_largest x n f h = go (index_only x n h)
 
 -- ---- as the program holds it
 
-abbrev index_from : Index → Option ℕ
-index_from (index.At k) = some k
-index_from index.None = none
+abbrev index_from : Told ℕ → Option ℕ
+index_from (Some k) = some k
+index_from None = none
 
 index_back : (o : Option ℕ) → index_from (index_told o) ≡ o
 index_back none = refl
 index_back (some k) = refl
 
-pub told_at : (o : Option ℕ) {i : Index} {k : ℕ} → i ≡ index_told o → i ≡ index.At k → o ≡ some k
+pub told_at : (o : Option ℕ) {i : Told ℕ} {k : ℕ} → i ≡ index_told o → i ≡ Some k → o ≡ some k
 told_at o e g = sym (index_back o) ∙ ap index_from (sym e ∙ g)
 
-pub told_none : (o : Option ℕ) {i : Index} → i ≡ index_told o → i ≡ index.None → o ≡ none
+pub told_none : (o : Option ℕ) {i : Told ℕ} → i ≡ index_told o → i ≡ None → o ≡ none
 told_none o e g = sym (index_back o) ∙ ap index_from (sym e ∙ g)

@@ -1,9 +1,6 @@
--- `numeric::power` meets its contract. The invariant: after i turns 2^c is squared i times.
-use Rattle.std.proofs.Common.{◌≡◌, ◌-◌, ◌*◌, ◌%◌, ◌^◌, ◌<◌, ◌≤◌}
+-- `numeric::power` meets its contract. The invariant: after as many turns as the counter tells, 2^c is squared that often.
+use Rattle.std.proofs.Common.{◌≡◌, ◌*◌, ◌%◌, ◌^◌, ◌<◌}
 use Rattle.numeric.proofs.power.Given as goal
 
-abbrev pub invariant-loop-i : goal.invariant-loop-i
-invariant-loop-i l = (l.x % l.n ≡ 2 ^ (l.c * 2 ^ l.i) % l.n) × (l.x < 2 ^ 56) × (l.i ≤ l.k)
-
-abbrev pub decreases-loop-i : goal.decreases-loop-i
-decreases-loop-i l = l.k - l.i
+abbrev pub invariant-loop : goal.invariant-loop
+invariant-loop l = (l.x % l.n ≡ 2 ^ (l.c * 2 ^ l.counter) % l.n) × (l.x < 2 ^ 56)

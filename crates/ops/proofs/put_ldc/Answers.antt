@@ -1,11 +1,8 @@
-use Rattle.text.specs.laws.PutLaws.{put_within}
-use Rattle.text.specs.laws.Joined.{put_three, put_four}
+use Rattle.std.proofs.Common.{[], ◌∷◌}
+use Rattle.text.specs.Text.{ascii, decimal}
+use Rattle.text.specs.laws.Writing.{appended_then}
+use Rattle.text.specs.laws.Joined.{appended_field}
 use Rattle.ops.proofs.put_ldc.Goals as goal
 
-pub put_literal-requires : goal.put_literal-requires
-put_literal-requires c =
-    (put_within c.requires.0 (put_three c.requires.0 c.put_all-p.ensures c.put_decimal-q.ensures c.put_all-s.ensures), c.requires.1, c.requires.2)
-
 pub returns : goal.returns
-returns c =
-    put_four c.requires.0 c.put_all-p.ensures c.put_decimal-q.ensures c.put_all-s.ensures c.put_literal.ensures
+returns c = appended_field (ascii "Ldc") (decimal c.args.f.a ∷ []) c.put_words.ensures (appended_then c.put_all.ensures c.put_literal.ensures)

@@ -7,32 +7,20 @@ use Prim.Native.String.{String}
 use Rattle.std.proofs.lemmas.List.{length-map}
 use Rattle.lent.specs.Bytes.{be_value, concat}
 use Rattle.lent.specs.laws.Numbers.{be_value_be_bytes}
-use Rattle.sifv.specs.Value.{One, Str as Text}
-use Rattle.sifv.specs.Slot.{single_of}
-use Rattle.sifv.specs.inner.Seen.{shown, single_seen}
-use Rattle.sifv.specs.laws.Laws.{plain_shown}
-use Rattle.sifv.specs.declared.SifVal.{SifVal}
+use Rattle.sifv.specs.Value.{Str as Text}
 use Rattle.opc.specs.Op.{Op, Binary, Unary, Ldc, Ldn, Mv, Ldas, Ldav, Upda, Stc, Stn, Str, JmpCnd, Jmpa, Incrr, Decrr, Fn, Call, FnRet, FnStackPush, FnStackPop, Tbli, Tblg, Nop, Stop, Instr, instr, label, op, Code}
 use Rattle.opc.specs.Record.{Fields, literal_items}
 use Rattle.tables.specs.Tables.{Program, entered, label_at, declares, declared, function_at}
 use Rattle.tables.specs.ProgramBytes.{index_word}
 use Rattle.vm_laws.specs.laws.StateLaws.{below_word}
 use Rattle.vm_laws.specs.laws.Kept.{label_below}
-use Rattle.text.specs.Text.{ascii, decimal, single_text, joined, words, line_of}
-use Rattle.text.specs.Put.{Put}
-use Rattle.text.specs.laws.PutLaws.{put_as, put_then}
-use Rattle.text.specs.laws.Joined.{row_end}
+use Rattle.text.specs.Text.{ascii, decimal, joined, words, line_of}
 use Rattle.listing_text.specs.ProgramText.{op_words, op_line, op_lines, index_line, index_lines, highest, program_text}
 use Rattle.ops.specs.inner.Told.{item_told, param_at, literal_told, Within, PooledTold, instr_at, entry_line, table_entry}
 use Rattle.ops.specs.laws.ToldLaws.{length_tabulate, Accepted}
 use Rattle.lent.specs.Lists.{tabulate}
 
--- ---- written
-
--- a loop's turn: one text more of the row that begins at i
-pub put_row : {out : List ℕ} {at : ℕ} → at ≤ length out → (t : ℕ → List ℕ) (L : ℕ → ℕ → List ℕ) → ((i : ℕ) → L i zero ≡ []) → ((i n : ℕ) → L i (suc n) ≡ t i ++ L (suc i) n)
-    → (i n : ℕ) {out₁ : List ℕ} {r₁ : ℕ} {out₂ : List ℕ} {r₂ : ℕ} → Put out at (L i n) out₁ r₁ → Put out₁ r₁ (t (i + n)) out₂ r₂ → Put out at (L i (n + 1)) out₂ r₂
-put_row h t L o m i n p q = put_as (ap (L i) (add-one n) ∙ row_end t L o m i n) (put_then h p q)
+-- ---- one entry more
 
 pub tabulate_end : {A : Type 0} (i n : ℕ) (f : ℕ → A) → tabulate i (n + 1) f ≡ tabulate i n f ++ (f (i + n) ∷ [])
 tabulate_end {A} i n f = ap (λ (k : ℕ). tabulate i k f) (add-one n) ∙ more i n
@@ -41,14 +29,7 @@ tabulate_end {A} i n f = ap (λ (k : ℕ). tabulate i k f) (add-one n) ∙ more 
     more i zero = ap (λ (k : ℕ). f k ∷ []) (sym (add-zero i))
     more i (suc n) = let e : suc i + n ≡ i + suc n = omega arith in ap (λ (l : List A). f i ∷ l) (more (suc i) n ∙ ap (λ (k : ℕ). tabulate (suc i) n f ++ (f k ∷ [])) e)
 
--- ---- literals and what is in the pool
-
--- a single value, as the program holds it
-pub item_text : (k w : ℕ) {k' w' : ℕ} {v : SifVal} → v ≡ shown (single_of k w) → k ≡ k' → w ≡ w' → single_text (single_of k' w') ≡ single_text (single_seen v)
-item_text k w e p q = ap single_text (sym (ap single_seen e ∙ plain_shown (single_of k w) ∙ ap₂ single_of p q))
-
-pub literal_single : (b : List ℕ) (k n w : ℕ) → (k ≡ 5 → ⊥) → (k ≡ 6 → ⊥) → literal_told b k n w ≡ One (single_of k w)
-literal_single b k n w h g = rw (ne_eqb k 5 h, ne_eqb k 6 g)
+-- ---- what is in the pool
 
 -- what an array's literal and a function keep in the pool: as many entries as the record says
 module _ (b : List ℕ) (f : Fields) where
@@ -100,8 +81,8 @@ instr_text i l o =
 
 -- ---- the lines of a table
 
-pub entry_some : (w : List ℕ) (i t : ℕ) → (t ≡ 0 → ⊥) → entry_line w i t ≡ joined (ascii " ") (w ∷ map decimal (i ∷ ((t - 1) ∷ []))) ++ ascii "\n"
-entry_some w i zero h = absurd (h refl)
+pub entry_some : (w : List ℕ) (i t : ℕ) → 0 < t → entry_line w i t ≡ joined (ascii " ") (w ∷ map decimal (i ∷ ((t - 1) ∷ []))) ++ ascii "\n"
+entry_some w i zero h = absurd (omega arith)
 entry_some w i (suc j) h = let e : j ≡ suc j - 1 = omega arith in ap (λ (k : ℕ). line_of (w ∷ (decimal i ∷ (decimal k ∷ [])))) e
 
 index_line_lem : (s : String) (i : ℕ) (o : Option ℕ) → entry_line (ascii s) i (index_word o) ≡ index_line s i o

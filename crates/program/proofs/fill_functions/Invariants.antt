@@ -1,10 +1,6 @@
-use Prim.Native.Nat.{◌-◌, ◌≤◌}
 use Rattle.program.specs.inner.Marked.{is_fn, name_of}
 use Rattle.program.proofs.Marks.{Filling}
 use Rattle.program.proofs.fill_functions.Given as goal
 
 abbrev pub invariant-loop-i : goal.invariant-loop-i
-invariant-loop-i l = (l.i ≤ l.n) × Filling (is_fn l.program) (name_of l.program) 64 l.n l.initial.t l.i l.t
-
-abbrev pub decreases-loop-i : goal.decreases-loop-i
-decreases-loop-i l = l.n - l.i
+invariant-loop-i l = Filling (is_fn l.program) (name_of l.program) 64 l.n l.initial.t l.i l.t

@@ -1,6 +1,5 @@
 use mathlib.Core.Path.{ap}
 use mathlib.Core.Bool.{not}
-use mathlib.Core.Path.{sym, ◌∙◌}
 use native.Mathlib.Omega.{arith}
 use borrow.Author.Tests.{not-true, not-false}
 use Rattle.lent.specs.laws.Each.{bytes_of}
@@ -26,12 +25,6 @@ pub returns-then-not-pool_ok : goal.returns-then-not-pool_ok
 returns-then-not-pool_ok c =
     let b = c.args.program.now in
     bad_pool b (bytes_of b (λ i. omega (arith, c.type_inv.program i))) (omega arith) c.get_u16-n.ensures.0 c.get_u16-start.ensures.0 c.pool_ok.ensures (not-true c.pool_ok.result (ap not c.if-not-pool_ok.true))
-
-pub labels_ok-requires : goal.labels_ok-requires
-labels_ok-requires c = (omega arith, omega arith, sym c.records_ok.ensures ∙ not-false c.records_ok.result (ap not c.if-not-records_ok.false))
-
-pub functions_ok-requires : goal.functions_ok-requires
-functions_ok-requires c = (omega arith, omega arith, sym c.records_ok.ensures ∙ not-false c.records_ok.result (ap not c.if-not-records_ok.false))
 
 pub returns : goal.returns
 returns c =

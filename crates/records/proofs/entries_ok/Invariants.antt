@@ -1,9 +1,6 @@
-use Rattle.std.proofs.Common.{◌≡◌, ◌-◌, ◌≤◌, ◌&&◌}
+use Rattle.std.proofs.Common.{◌≡◌, ◌+◌, ◌-◌, ◌&&◌}
 use Rattle.records.specs.inner.Fits.{all_from, entry_ok}
 use Rattle.records.proofs.entries_ok.Given as goal
 
 abbrev pub invariant-loop-k : goal.invariant-loop-k
-invariant-loop-k l = (l.k ≤ l.end) × (l.end ≤ 1024) × (all_from l.n l.from (entry_ok l.least l.most l.program) ≡ (l.ok && all_from (l.end - l.k) l.k (entry_ok l.least l.most l.program)))
-
-abbrev pub decreases-loop-k : goal.decreases-loop-k
-decreases-loop-k l = l.end - l.k
+invariant-loop-k l = all_from l.n l.from (entry_ok l.least l.most l.program) ≡ (l.ok && all_from (l.from + l.n - l.k) l.k (entry_ok l.least l.most l.program))

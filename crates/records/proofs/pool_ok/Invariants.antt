@@ -1,9 +1,6 @@
-use Rattle.std.proofs.Common.{◌≡◌, ◌-◌, ◌≤◌, ◌&&◌, leb}
+use Rattle.std.proofs.Common.{◌≡◌, ◌-◌, ◌≤◌}
 use Rattle.records.specs.inner.Fits.{pool_fits}
 use Rattle.records.proofs.pool_ok.Given as goal
 
 abbrev pub invariant-loop-i : goal.invariant-loop-i
-invariant-loop-i l = (l.i ≤ l.n) × (l.next ≤ 1025) × (pool_fits l.n 0 0 l.program ≡ (leb l.next 1024 && pool_fits (l.n - l.i) l.i l.next l.program))
-
-abbrev pub decreases-loop-i : goal.decreases-loop-i
-decreases-loop-i l = l.n - l.i
+invariant-loop-i l = (l.next ≤ 1024) × (pool_fits l.n 0 0 l.program ≡ pool_fits (l.n - l.i) l.i l.next l.program)

@@ -10,11 +10,11 @@ returns-then-kind-le4 c =
 
 pub returns-then-kind-eq5 : goal.returns-then-kind-eq5
 returns-then-kind-eq5 c =
-    get_arr c.args.s.now c.args.at c.wide-kind.result c.wide-kind.ensures.0 c.wide-n.ensures.0 c.if-kind-eq5.true c.least.ensures
+    get_arr c.args.s.now c.args.at c.wide-kind.result c.wide-kind.ensures.0 c.wide-n.ensures.0 c.if-kind-eq5.true c.min.ensures
 
 pub returns-then-kind-eq6 : goal.returns-then-kind-eq6
 returns-then-kind-eq6 c =
-    get_tab c.args.s.now c.args.at c.wide-kind.result c.wide-kind.ensures.0 c.wide-n.ensures.0 c.if-kind-eq6.true c.least-then-kind-eq6.ensures
+    get_tab c.args.s.now c.args.at c.wide-kind.result c.wide-kind.ensures.0 c.wide-n.ensures.0 c.if-kind-eq6.true c.min-then-kind-eq6.ensures
 
 pub returns : goal.returns
 returns c =

@@ -10,6 +10,7 @@ use Rattle.sifv.proofs.items_ok.Goals as goal
 pub returns-then-moderate_numbers : goal.returns-then-moderate_numbers
 returns-then-moderate_numbers c =
     let s = c.args in
-    moderate_numbers_law (part s.s.now s.at 256) s.n
+    c.if-moderate_numbers.true
+    ∙ moderate_numbers_law (part s.s.now s.at 256) s.n
     (each_part s.at 256 (bytes_of s.s.now (λ i. omega (arith, c.type_inv.s i))))
     (length_part s.s.now s.at 256 c.requires.0) c.requires.1 (sym c.moderate_numbers.ensures ∙ c.if-moderate_numbers.true)

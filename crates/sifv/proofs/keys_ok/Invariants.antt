@@ -1,5 +1,5 @@
 use mathlib.Core.Path.{◌≡◌}
-use Prim.Native.Nat.{◌+◌, ◌-◌, ◌≤◌}
+use Prim.Native.Nat.{◌+◌, ◌≤◌}
 use mathlib.Core.Bool.{◌&&◌}
 use lib.ListN.{drop}
 use Rattle.lent.specs.Bytes.{part}
@@ -7,7 +7,4 @@ use Rattle.sifv.specs.inner.Seen.{keys_ok}
 use Rattle.sifv.proofs.keys_ok.Given as goal
 
 abbrev pub invariant-loop-i : goal.invariant-loop-i
-invariant-loop-i l = (l.i ≤ l.n) × (l.next ≤ 256) × (keys_ok 0 (part l.s (l.at + 232) l.n) ≡ (l.ok && keys_ok l.next (drop l.i (part l.s (l.at + 232) l.n))))
-
-abbrev pub decreases-loop-i : goal.decreases-loop-i
-decreases-loop-i l = l.n - l.i
+invariant-loop-i l = (l.next ≤ 256) × (keys_ok 0 (part l.s (l.at + 232) l.n) ≡ (l.ok && keys_ok l.next (drop l.i (part l.s (l.at + 232) l.n))))

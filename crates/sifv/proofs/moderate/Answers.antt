@@ -5,20 +5,11 @@ use lib.Dec.{ltb}
 use Rattle.lent.specs.Bytes.{part}
 use Rattle.lent.specs.laws.Parts.{get_d_part}
 use Rattle.sifv.specs.inner.Tests.{moderate_test}
-use Rattle.sifv.specs.laws.Direct.{upto_turn, upto_end}
+use Rattle.sifv.specs.laws.Direct.{upto_turn}
 use Rattle.sifv.proofs.moderate.Goals as goal
-
-pub loop-i-init : goal.loop-i-init
-loop-i-init c = (omega arith, refl)
 
 pub loop-i-preserved : goal.loop-i-preserved
 loop-i-preserved c =
     let s = c.args in
     let l = c.loop-i in
-    (omega arith, upto_turn (moderate_test (part s.s.now s.at 256)) l.i l.invariant.1 (ap (λ (k : ℕ). ltb (k % 128) 127) (sym (get_d_part s.s.now s.at 256 (40 + l.i * 8) 0 (omega arith)))) refl)
-
-pub returns : goal.returns
-returns c =
-    let s = c.args in
-    let l = c.loop-i in
-    upto_end (moderate_test (part s.s.now s.at 256)) s.n l.i l.invariant.1 l.invariant.0 (omega arith)
+    upto_turn (moderate_test (part s.s.now s.at 256)) l.i l.invariant (ap (λ (k : ℕ). ltb (k % 128) 127) (sym (get_d_part s.s.now s.at 256 (40 + l.i * 8) 0 (omega arith)))) refl

@@ -1,13 +1,9 @@
 -- `sifv::moderate` meets its contract.
 use mathlib.Core.Path.{◌≡◌}
-use Prim.Native.Nat.{◌-◌, ◌≤◌}
 use Rattle.lent.specs.Bytes.{part}
 use Rattle.sifv.specs.inner.Tests.{moderate_test}
 use Rattle.lent.specs.Lists.{upto}
 use Rattle.sifv.proofs.moderate.Given as goal
 
 abbrev pub invariant-loop-i : goal.invariant-loop-i
-invariant-loop-i l = (l.i ≤ l.n) × (l.ok ≡ upto l.i (moderate_test (part l.s l.at 256)))
-
-abbrev pub decreases-loop-i : goal.decreases-loop-i
-decreases-loop-i l = l.n - l.i
+invariant-loop-i l = l.ok ≡ upto l.i (moderate_test (part l.s l.at 256))

@@ -1,13 +1,9 @@
 -- `sifv::numbers` meets its contract.
 use mathlib.Core.Path.{◌≡◌}
-use Prim.Native.Nat.{◌-◌, ◌≤◌}
 use Rattle.lent.specs.Bytes.{part}
 use Rattle.sifv.specs.inner.Tests.{number_test}
 use Rattle.lent.specs.Lists.{upto}
 use Rattle.sifv.proofs.numbers.Given as goal
 
 abbrev pub invariant-loop-i : goal.invariant-loop-i
-invariant-loop-i l = (l.i ≤ l.n) × (l.ok ≡ upto l.i (number_test (part l.s l.at 256)))
-
-abbrev pub decreases-loop-i : goal.decreases-loop-i
-decreases-loop-i l = l.n - l.i
+invariant-loop-i l = l.ok ≡ upto l.i (number_test (part l.s l.at 256))

@@ -1,16 +1,8 @@
 use Rattle.sifv.specs.inner.Seen.{single_seen}
 use mathlib.Core.Path.{refl, ◌∙◌}
-use native.Mathlib.Omega.{arith}
-use lib.ListN.{length-set}
 use Rattle.sifv.specs.laws.Items.{put_item_law}
 use Rattle.sifv.specs.laws.Laws.{word_plain}
 use Rattle.sifv.proofs.put_item.Goals as goal
-
-pub put_u64-requires : goal.put_u64-requires
-put_u64-requires c = simp length-set (omega arith)
-
-pub shape_of-s : goal.shape_of-s
-shape_of-s c = c.put_u64.auto.d ∙ simp length-set
 
 pub returns : goal.returns
 returns c =

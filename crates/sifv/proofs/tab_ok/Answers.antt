@@ -1,14 +1,8 @@
 -- `sifv::tab_ok` meets its contract.
 use native.Mathlib.Omega.{arith}
 use Rattle.lent.specs.laws.Each.{bytes_of}
-use Rattle.sifv.specs.laws.Direct.{tab_tests, tab_long}
+use Rattle.sifv.specs.laws.Direct.{tab_tests}
 use Rattle.sifv.proofs.tab_ok.Goals as goal
-
-pub returns-then-n-gt-TABLE_ITEMS : goal.returns-then-n-gt-TABLE_ITEMS
-returns-then-n-gt-TABLE_ITEMS c =
-    let s = c.args in
-    tab_long s.s.now s.at (bytes_of s.s.now (λ i. omega (arith, c.type_inv.s i))) c.requires.0 c.wide-n.result
-    c.wide-n.ensures.0 c.if-n-gt-TABLE_ITEMS.true
 
 pub returns : goal.returns
 returns c =

@@ -4,9 +4,6 @@ use native.Mathlib.Omega.{arith}
 use Rattle.lent.specs.laws.Numbers.{be_value_one}
 use Rattle.state.proofs.loc_of.Goals as goal
 
-pub get_u8-requires-2 : goal.get_u8-requires-2
-get_u8-requires-2 c = omega (arith, c.requires)
-
 pub returns : goal.returns
 returns c =
     let s = c.args.state.now in

@@ -1,6 +1,6 @@
 use native.Mathlib.Omega.{arith}
 use mathlib.Core.Path.{◌≡◌, refl, ap, ◌∙◌}
-use Prim.Native.Nat.{◌-◌, suc}
+use Prim.Native.Nat.{◌+◌, ◌-◌, suc}
 use lib.ListN.{get_or}
 use borrow.Author.Rules.{rules}
 use Rattle.emit.specs.declared.Done.{Done}
@@ -343,8 +343,8 @@ pub ifstmt-overflow_sub-rest-2 : goal.ifstmt-overflow_sub-rest-2
 ifstmt-overflow_sub-rest-2 t c =
     omega (arith, (if_counts c.args.lbl c.requires.contents_value c.requires.reads).0)
 
-pub ifstmt-overflow_add-more : goal.ifstmt-overflow_add-more
-ifstmt-overflow_add-more t c =
+pub ifstmt-overflow_step-more : goal.ifstmt-overflow_step-more
+ifstmt-overflow_step-more t c =
     omega (arith, c.type_inv.contents 1, (if_counts c.args.lbl c.requires.contents_value c.requires.reads).0)
 
 pub ifstmt-loop-more-init : goal.ifstmt-loop-more-init
@@ -401,29 +401,31 @@ ifstmt-returns t c =
     if_front l c.requires.contents_value c.start-q.ensures n rest refl (omega (arith, counts))
     (if_end c.loop-more.invariant.1 (omega arith) c.stmts-s.ensures c.if_end-e.ensures c.update_ends.ensures)
 
-pub stmts-loop-more-init : goal.stmts-loop-more-init
-stmts-loop-more-init t c = (refl, left_start c.requires)
+pub stmts-loop-init : goal.stmts-loop-init
+stmts-loop-init t c = let z : c.args.n - 0 ≡ c.args.n = omega arith in (refl, rw z (left_start c.requires))
 
 pub stmts-block_at-q-requires : goal.stmts-block_at-q-requires
 stmts-block_at-q-requires t c =
-    let l = c.loop-more in
-    let z : l.more ≡ 0 → ⊥ = λ e. omega (arith, e) in
-    (omega (arith, l.invariant.1.behind), list_first l.more z l.invariant.1.reads)
+    let l = c.loop in
+    let m = c.args.n - l.counter in
+    let z : m ≡ 0 → ⊥ = λ e. omega (arith, e) in
+    (omega (arith, l.invariant.1.behind), list_first m z l.invariant.1.reads)
 
-pub stmts-loop-more-preserved : goal.stmts-loop-more-preserved
-stmts-loop-more-preserved t c =
-    let l = c.loop-more in
-    let z : l.more ≡ 0 → ⊥ = λ e. omega (arith, e) in
+pub stmts-loop-preserved : goal.stmts-loop-preserved
+stmts-loop-preserved t c =
+    let l = c.loop in
+    let m = c.args.n - l.counter in
+    let z : m ≡ 0 → ⊥ = λ e. omega (arith, e) in
     let g = c.block_at-q.ensures in
-    let s : suc (l.more - 1) ≡ l.more = omega arith in
+    let s : suc (c.args.n - (l.counter + 1)) ≡ m = omega arith in
     let reads = l.invariant.1.reads in (
       search rules,
-      left_turn l.invariant.1 (omega (arith, (list_falls l.more z g reads).0)) (list_next l.more z g (l.more - 1) s reads)
-          (λ r d x. list_goes l.more z g (l.more - 1) s x),
+      left_turn l.invariant.1 (omega (arith, (list_falls m z g reads).0)) (list_next m z g (c.args.n - (l.counter + 1)) s reads)
+          (λ r d x. list_goes m z g (c.args.n - (l.counter + 1)) s x),
     )
 
 pub stmts-shape_of-out : goal.stmts-shape_of-out
-stmts-shape_of-out t c = c.loop-more.invariant.0
+stmts-shape_of-out t c = c.loop.invariant.0
 
 pub stmts-returns : goal.stmts-returns
-stmts-returns t c = left_end c.loop-more.invariant.1 (list_none c.loop-more.more (omega arith))
+stmts-returns t c = left_end c.loop.invariant.1 (list_none (c.args.n - c.loop.counter) (omega arith))

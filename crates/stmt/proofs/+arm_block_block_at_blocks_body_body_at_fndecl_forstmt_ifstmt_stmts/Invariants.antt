@@ -36,14 +36,8 @@ decreases-ifstmt l = length l.contents.now * 8 + 0
 abbrev pub invariant-ifstmt-loop-more : goal.invariant-ifstmt-loop-more
 invariant-ifstmt-loop-more l = (length l.out ≡ length l.initial.out) × IfLeft l.n l.rest l.contents l.bodies l.keep l.initial.q l.initial.out l.last l.more l.q l.out
 
-abbrev pub decreases-ifstmt-loop-more : goal.decreases-ifstmt-loop-more
-decreases-ifstmt-loop-more l = l.more
-
 abbrev pub decreases-stmts : goal.decreases-stmts
 decreases-stmts l = (length l.contents.now - l.p.cont) * 8 + 3
 
-abbrev pub invariant-stmts-loop-more : goal.invariant-stmts-loop-more
-invariant-stmts-loop-more l = (length l.out ≡ length l.initial.out) × LoopLeft (lists l.initial.q.lbl l.n) (lists l.q.lbl l.more) l.contents l.bodies l.keep l.initial.q l.initial.out l.q l.out
-
-abbrev pub decreases-stmts-loop-more : goal.decreases-stmts-loop-more
-decreases-stmts-loop-more l = l.more
+abbrev pub invariant-stmts-loop : goal.invariant-stmts-loop
+invariant-stmts-loop l = (length l.out ≡ length l.initial.out) × LoopLeft (lists l.initial.q.lbl l.n) (lists l.q.lbl (l.n - l.counter)) l.contents l.bodies l.keep l.initial.q l.initial.out l.q l.out

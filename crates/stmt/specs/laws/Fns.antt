@@ -1,5 +1,5 @@
 -- A function's instruction, its registers and its pops.
-use Rattle.std.specs.Prelude.{ℕ, zero, suc, ◌+◌, ◌*◌, ◌-◌, ◌%◌, ◌≤◌, ◌<◌, ◌≡◌, refl, Bool, true, false, cond, List, [], ◌∷◌, ◌++◌, map, leb, eqb, length, take, drop, get_or, replicate}
+use Rattle.std.specs.Prelude.{ℕ, zero, suc, ◌+◌, ◌*◌, ◌-◌, ◌%◌, ◌≤◌, ◌<◌, ◌≡◌, refl, Bool, true, false, cond, List, [], ◌∷◌, ◌++◌, map, leb, ltb, eqb, length, take, drop, get_or, replicate}
 use Rattle.std.proofs.Common.{sym, ap, ◌∙◌, arith, add-one, drop-cons, take-suc, take_all, length-take-le, mod-eq_of_lt, eq-eqb, leb-false}
 use Rattle.std.proofs.lemmas.List.{length-map}
 use Rattle.lent.specs.Bytes.{splice}
@@ -7,10 +7,10 @@ use Rattle.lent.specs.laws.Parts.{length_splice, splice_append, splice_none}
 use Rattle.sifv.specs.Value.{Single, Str}
 use Rattle.opc.specs.Op as Op
 use Rattle.opc.specs.Op.{instr, Fn, FnStackPop}
-use Rattle.opc.specs.Record.{item_bytes}
+use Rattle.opc.specs.Record.{Fields, fields, field_bytes, item_bytes}
 use Rattle.compiler.specs.Lower.{Place, Event, Reg, push, lower_pops}
 use Rattle.emit.specs.declared.Low.{Low}
-use Rattle.emit.specs.inner.Run.{kept, refuse, no_room, counted, instr_items, step_event, after_events, put_instr, Did, Ready}
+use Rattle.emit.specs.inner.Run.{kept, refuse, no_room, counted, instr_items, step_event, after_events, put_instr, Did, Ready, PushesItems}
 use Rattle.emit.specs.laws.Laws.{length_items, after_refused, wrote_refused, did_if, did_as, ready_next, unrefused, ready_did, kept_did, some_place}
 use Rattle.stmt.specs.inner.Parts.{PushesFn, Pops, param_items}
 
@@ -75,6 +75,11 @@ module _ {k : Bool} {s : Low} {n f : ℕ} {ps : List ℕ} {buf : List ℕ} where
         let g : no_room (kept s.decls w.section) s (instr_items (instr n (Fn f ps))) ≡ false = rw (← e, c) h in
         record { state = rw (g, eq-eqb s.refused 0 z, ← e, c) q; buffer = rw (g, eq-eqb s.refused 0 z, ← e) b };
   }
+
+  -- the record first, the parameters where one was written
+  pub fn_items : {r : Fields} {s' : Low} {buf₁ buf₂ : List ℕ} → r ≡ fields n 16 0 f 0 0 (length ps) s.items → PushesItems k s (length ps) (field_bytes r) buf s' buf₁
+      → buf₂ ≡ cond (ltb s.recs s'.recs) (splice buf₁ (16384 + 16 * s.items) (param_items ps)) buf₁ → PushesFn k s n f ps buf s' buf₂
+  fn_items {buf₂ = buf₂} h p q = record { pushes = λ w e. p.did w (instr n (Fn f ps)) (length-map ps Str) (ap field_bytes h) e buf₂ q }
 
 -- ---- the pops
 

@@ -1,7 +1,5 @@
-use Prim.Native.Nat.{◌-◌, ◌≤◌}
 use mathlib.Core.Path.{◌≡◌}
 use mathlib.Core.Option.{none}
-use lib.ListN.{length}
 use Rattle.opc.specs.Op.{Code}
 use Rattle.tables.specs.Tables.{function_at}
 use Rattle.tables.specs.inner.Entries.{Begun}
@@ -10,8 +8,4 @@ use Rattle.tables.proofs.functions.Given as goal
 
 abbrev pub invariant-loop-i : goal.invariant-loop-i
 invariant-loop-i l =
-    (l.i ≤ l.n) × (length l.program ≡ length l.initial.program)
-    × ((cs : Code) → Begun 34816 64 cs (λ x. none) l.n l.initial.program → Turned 34816 64 (functions_go l.i) (function_at cs) l.n l.i l.initial.program l.program)
-
-abbrev pub decreases-loop-i : goal.decreases-loop-i
-decreases-loop-i l = l.n - l.i
+    (cs : Code) → Begun 34816 64 cs (λ x. none) l.n l.initial.program → Turned 34816 64 (functions_go l.i) (function_at cs) l.n l.i l.initial.program l.program

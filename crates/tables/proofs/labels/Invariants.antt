@@ -1,7 +1,6 @@
-use Prim.Native.Nat.{ℕ, ◌-◌, ◌≤◌}
+use Prim.Native.Nat.{ℕ}
 use mathlib.Core.Path.{◌≡◌}
 use mathlib.Core.Option.{Option}
-use lib.ListN.{length}
 use Rattle.opc.specs.Op.{Code}
 use Rattle.tables.specs.Tables.{entered}
 use Rattle.tables.specs.inner.Entries.{Begun}
@@ -10,8 +9,4 @@ use Rattle.tables.proofs.labels.Given as goal
 
 abbrev pub invariant-loop-i : goal.invariant-loop-i
 invariant-loop-i l =
-    (l.i ≤ l.n) × (length l.program ≡ length l.initial.program)
-    × ((cs : Code) (f : ℕ → Option ℕ) → Begun 32768 1024 cs f l.n l.initial.program → Turned 32768 1024 (labels_go l.was l.i) (λ k. entered cs k l.first 0 (f k)) l.n l.i l.initial.program l.program)
-
-abbrev pub decreases-loop-i : goal.decreases-loop-i
-decreases-loop-i l = l.n - l.i
+    (cs : Code) (f : ℕ → Option ℕ) → Begun 32768 1024 cs f l.n l.initial.program → Turned 32768 1024 (labels_go l.was l.i) (λ k. entered cs k l.first 0 (f k)) l.n l.i l.initial.program l.program

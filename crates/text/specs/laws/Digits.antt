@@ -1,59 +1,38 @@
--- Laws of digits, and of writing them.
-use Rattle.std.specs.Prelude.{◌≡◌, List, [], ◌∷◌, ◌++◌, ℕ, zero, suc, ◌+◌, ◌-◌, ◌*◌, ◌/◌, ◌%◌, ◌^◌, ◌≤◌, ◌<◌, length}
-use Rattle.std.proofs.Common.{ap, ◌∙◌, arith, zero-lt-suc, lt-ltb, le-ltb}
-use Rattle.std.proofs.Math.Nat.{one-le-pow, pow-succ'}
-use Rattle.text.specs.Text.{digits, hex_digit, hex}
-use Rattle.text.specs.Put.{Put}
-use Rattle.text.specs.laws.PutLaws.{put_none, put_then}
+-- Laws of digits, and of a writer that writes them.
+use Rattle.std.specs.Prelude.{◌≡◌, refl, Bool, true, false, List, [], ◌∷◌, ◌++◌, ℕ, zero, suc, ◌+◌, ◌-◌, ◌/◌, ◌%◌, ◌^◌, ◌≤◌, ◌<◌, ltb}
+use Rattle.std.proofs.Common.{ap, arith, zero-lt-suc, lt-ltb, le-ltb}
+use Rattle.std.proofs.Math.Nat.{pow-le-pow_right, pow-succ'}
+use Rattle.text.specs.Text.{digits, decimal, hex_digit, hex}
+use Rattle.text.specs.declared.Writer.{Writer}
+use Rattle.text.specs.inner.Appended.{Appended}
+use Rattle.text.specs.laws.Writing.{appended_none, appended_then}
+use Rattle.text.specs.laws.PutDigits.{hex_more}
 
-digits_small : (k n : ℕ) → 0 < k → n < 10 → digits k n ≡ (48 + n) ∷ []
-digits_small zero n h l = absurd (omega arith)
-digits_small (suc k) n h l = rw (lt-ltb n 10 l)
+-- ---- decimal
 
-digits_more : (k n : ℕ) → 0 < k → 10 ≤ n → digits k n ≡ digits (k - 1) (n / 10) ++ ((48 + n % 10) ∷ [])
-digits_more zero n h l = absurd (omega arith)
-digits_more (suc k) n h l =
-    let z : suc k - 1 ≡ k = omega arith in
-    rw (le-ltb n 10 l, z)
+-- a number below a power of 10 has no more digits than the power's exponent
+digits_enough : (k n : ℕ) → n < 10 ^ suc k → digits (suc (suc k)) n ≡ digits (suc k) n
+digits_enough zero n h = let z : n < 10 = omega (arith, pow-succ' 10 0) in rw (lt-ltb n 10 z)
+digits_enough (suc k) n h = by (ltb n 10) refl (digits_enough k (n / 10) (omega (arith, pow-succ' 10 (suc k))))
+  where
+    by : (t : Bool) → ltb n 10 ≡ t → digits (suc (suc k)) (n / 10) ≡ digits (suc k) (n / 10) → digits (suc (suc (suc k))) n ≡ digits (suc (suc k)) n
+    by true e f = rw e
+    by false e f = rw e (ap (λ (l : List ℕ). l ++ ((48 + n % 10) ∷ [])) f)
 
-hex_more : (k n p : ℕ) → 0 < k → p ≡ 16 ^ (k - 1) → hex k n ≡ hex_digit (n / p % 16) ∷ hex (k - 1) n
-hex_more zero n p h e = absurd (omega arith)
-hex_more (suc k) n p h e =
-    let z : suc k - 1 ≡ k = omega arith in
-    rw (e, z)
+pub decimal_small : (n : ℕ) → n < 10 → (48 + n % 10) ∷ [] ≡ decimal n
+decimal_small n l = let e : n % 10 ≡ n = omega arith in rw (lt-ltb n 10 l, e)
 
-module _ {out : List ℕ} {at : ℕ} (h : at ≤ length out) where
-  pub digits_none : (k n : ℕ) → k ≡ 0 → Put out at (digits k n) out at
-  digits_none k n e = rw e (put_none out at h)
+pub decimal_more : (n : ℕ) → n < 2 ^ 64 → 10 ≤ n → decimal (n / 10) ++ ((48 + n % 10) ∷ []) ≡ decimal n
+decimal_more n h l = rw (le-ltb n 10 l) (ap (λ (d : List ℕ). d ++ ((48 + n % 10) ∷ [])) (digits_enough 18 (n / 10) (omega arith)))
 
-  pub digits_one : (k n : ℕ) {b : ℕ} {out' : List ℕ} {r : ℕ} → (k ≡ 0 → ⊥) → n < 10 → b ≡ (48 + n) % 256 → Put out at (b ∷ []) out' r → Put out at (digits k n) out' r
-  digits_one k n {b} z l e p =
-      let y : b ≡ 48 + n = omega arith in
-      rw (digits_small k n (omega arith) l, ← y) p
+-- ---- hex
 
-  pub digits_then : (k n : ℕ) {b : ℕ} {out₁ : List ℕ} {r₁ : ℕ} {out' : List ℕ} {r : ℕ} → (k ≡ 0 → ⊥) → 10 ≤ n → b ≡ (48 + n % 10) % 256 → Put out at (digits (k - 1) (n / 10)) out₁ r₁ → Put out₁ r₁ (b ∷ []) out' r
-      → Put out at (digits k n) out' r
-  digits_then k n {b} z l e p q =
-      let y : b ≡ 48 + n % 10 = omega arith in
-      rw (digits_more k n (omega arith) l, ← y) (put_then h p q)
+pub hex_none : (w : Writer) (k n : ℕ) → k ≤ 0 → Appended w (hex k n) w
+hex_none w k n h = let e : k ≡ 0 = omega arith in rw e (appended_none w)
 
-  pub hex_none : (k n : ℕ) → k ≡ 0 → Put out at (hex k n) out at
-  hex_none k n e = rw e (put_none out at h)
+pub hex_then : (k n p : ℕ) {b : ℕ} {v w x : Writer} → 0 < k → p ≡ 16 ^ (k - 1) → b ≡ hex_digit (n / p % 16) → Appended v (b ∷ []) w → Appended w (hex (k - 1) n) x → Appended v (hex k n) x
+hex_then k n p z e d p₁ p₂ = rw (hex_more k n p z e, ← d) (appended_then p₁ p₂)
 
-  pub hex_then : (k n p : ℕ) {b : ℕ} {out₁ : List ℕ} {r₁ : ℕ} {out' : List ℕ} {r : ℕ} → (k ≡ 0 → ⊥) → p ≡ 16 ^ (k - 1) → b ≡ hex_digit (n / p % 16) → Put out at (b ∷ []) out₁ r₁ → Put out₁ r₁ (hex (k - 1) n) out' r
-      → Put out at (hex k n) out' r
-  hex_then k n p z e d u v = rw (hex_more k n p (omega arith) e, ← d) (put_then h u v)
-
--- the next power of 16
-pub power_less : (k p : ℕ) → 1 < k → p ≡ 16 ^ (k - 1) → p / 16 ≡ 16 ^ (k - 1 - 1)
-power_less zero p h e = absurd (omega arith)
-power_less (suc zero) p h e = absurd (omega arith)
-power_less (suc (suc k)) p h e =
-    let x : suc (suc k) - 1 ≡ suc k = omega arith in
-    let y : k ≡ suc (suc k) - 1 - 1 = omega arith in
-    let w : p ≡ 16 * 16 ^ k = e ∙ ap (λ (j : ℕ). 16 ^ j) x ∙ pow-succ' 16 k in
-    let v : p / 16 ≡ 16 ^ k = omega arith in
-    v ∙ ap (λ (j : ℕ). 16 ^ j) y
-
-pub power_some : (k p : ℕ) → p ≡ 16 ^ k → 0 < p
-power_some k p e = omega (arith, one-le-pow k 16 (zero-lt-suc 15))
+-- a power of 16 within 64 bits
+pub power_fits : (k : ℕ) → k ≤ 15 → 16 ^ k < 2 ^ 64
+power_fits k h = omega (arith, pow-le-pow_right (zero-lt-suc 15) h)

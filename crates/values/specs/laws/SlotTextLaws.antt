@@ -12,29 +12,21 @@ use Rattle.sifv.specs.inner.Seen.{shown, seen, single_seen, kind_in, slot_item, 
 use Rattle.sifv.specs.laws.Laws.{plain_shown, length_singles, length_entries, decode_empty, decode_single, decode_arr, decode_tab, decode_other}
 use Rattle.sifv.specs.laws.Items.{contents_more}
 use Rattle.sifv.specs.declared.SifVal.{SifVal}
-use Rattle.sifv.specs.declared.SifVal.TheVariants.{Empty, Arr, Tab}
+use Rattle.sifv.specs.declared.SifVal.TheVariants.{Arr, Tab}
 use Rattle.text.specs.Text.{ascii, decimal, single_text, entry_text, joined, value_text, separator}
-use Rattle.text.specs.Put.{Put}
-use Rattle.text.specs.laws.PutLaws.{put_as, put_none}
-use Rattle.text.specs.laws.Joined.{put_three, put_element}
+use Rattle.text.specs.declared.Writer.{Writer}
+use Rattle.text.specs.inner.Appended.{Appended}
+use Rattle.text.specs.laws.Writing.{appended_as}
+use Rattle.text.specs.laws.Joined.{appended_three, appended_element}
 use Rattle.values.specs.inner.SlotText.{slot_text}
 use Rattle.sifv.specs.inner.Forms.{len_in}
 
 -- ---- what a slot shows
 
-seen_text : (x : Single) {v : SifVal} → v ≡ shown x → single_text x ≡ single_text (single_seen v)
+pub seen_text : (x : Single) {v : SifVal} → v ≡ shown x → single_text x ≡ single_text (single_seen v)
 seen_text x e = ap single_text (sym (ap single_seen e ∙ plain_shown x))
 
-text_none : (o : Option Value) → Empty ≡ seen o → [] ≡ slot_text o
-text_none none e = refl
-text_none (some (One (model.Num x))) e = absurd (let z = ap kind_in e in omega arith)
-text_none (some (One (model.Str t))) e = absurd (let z = ap kind_in e in omega arith)
-text_none (some (One (model.Bl b))) e = absurd (let z = ap kind_in e in omega arith)
-text_none (some (One model.Null)) e = absurd (let z = ap kind_in e in omega arith)
-text_none (some (model.Arr l)) e = absurd (let z = ap kind_in e in omega arith)
-text_none (some (model.Tab t)) e = absurd (let z = ap kind_in e in omega arith)
-
-text_one : (o : Option Value) (v : SifVal) → v ≡ seen o → 0 < kind_in v → kind_in v ≤ 4 → single_text (single_seen v) ≡ slot_text o
+pub text_one : (o : Option Value) (v : SifVal) → v ≡ seen o → 0 < kind_in v → kind_in v ≤ 4 → single_text (single_seen v) ≡ slot_text o
 text_one none v e h g = absurd (let z = ap kind_in e in omega arith)
 text_one (some (One x)) v e h g = sym (seen_text x e)
 text_one (some (model.Arr l)) v e h g = absurd (let z = ap kind_in e in omega arith)
@@ -90,7 +82,7 @@ entries_end ks (y ∷ l) x =
     ap (λ (t : List Entry). entry (get_or ks 0 0) y ∷ t)
     (entries_end (drop 1 ks) l x ∙ ap (λ (k : ℕ). entries_of (drop 1 ks) l ++ (entry k x ∷ [])) (get_or-drop 1 ks (length l) 0 ∙ ap (λ (i : ℕ). get_or ks i 0) e))
 
-entries_more : (n : ℕ) (b : List ℕ) → n < 16 → entries_in (n + 1) b ≡ entries_in n b ++ (entry (get_or b (232 + n) 0) (slot_item b n) ∷ [])
+pub entries_more : (n : ℕ) (b : List ℕ) → n < 16 → entries_in (n + 1) b ≡ entries_in n b ++ (entry (get_or b (232 + n) 0) (slot_item b n) ∷ [])
 entries_more n b h =
     let l = contents n b in
     let m : length l ≡ n = length_singles n (part b 16 24) (part b 40 192) in
@@ -99,37 +91,33 @@ entries_more n b h =
 
 -- ---- written
 
-module _ {out : List ℕ} {at : ℕ} (h : at ≤ length out) {out₁ : List ℕ} {r₁ : ℕ} {out₂ : List ℕ} {r₂ : ℕ} {out₃ : List ℕ} {r₃ : ℕ} where
-  pub items_turn : (b : List ℕ) (i : ℕ) {v : SifVal} → i < 24 → Put out at (joined (ascii ",") (map single_text (contents i b))) out₁ r₁ → Put out₁ r₁ (separator (ascii ",") i) out₂ r₂
-      → v ≡ shown (slot_item b i) → Put out₂ r₂ (single_text (single_seen v)) out₃ r₃ → Put out at (joined (ascii ",") (map single_text (contents (i + 1) b))) out₃ r₃
+module _ {v w x y : Writer} where
+  pub items_turn : (b : List ℕ) (i : ℕ) {s : SifVal} → i < 24 → Appended v (joined (ascii ",") (map single_text (contents i b))) w → Appended w (separator (ascii ",") i) x
+      → s ≡ shown (slot_item b i) → Appended x (single_text (single_seen s)) y → Appended v (joined (ascii ",") (map single_text (contents (i + 1) b))) y
   items_turn b i g p q e r =
-      put_element h single_text (ascii ",") (contents i b) (contents (i + 1) b) (slot_item b i) (sym (length_singles i (part b 16 24) (part b 40 192))) (contents_more i b g) p q
-      (put_as (seen_text (slot_item b i) e) r)
+      appended_element single_text (ascii ",") (contents i b) (contents (i + 1) b) (slot_item b i) (sym (length_singles i (part b 16 24) (part b 40 192))) (contents_more i b g) p q
+      (appended_as (seen_text (slot_item b i) e) r)
 
-  pub entries_turn : (b : List ℕ) (i : ℕ) → i < 16 → Put out at (joined (ascii ",") (map entry_text (entries_in i b))) out₁ r₁ → Put out₁ r₁ (separator (ascii ",") i) out₂ r₂
-      → Put out₂ r₂ (entry_text (entry (get_or b (232 + i) 0) (slot_item b i))) out₃ r₃ → Put out at (joined (ascii ",") (map entry_text (entries_in (i + 1) b))) out₃ r₃
+  pub entries_turn : (b : List ℕ) (i : ℕ) → i < 16 → Appended v (joined (ascii ",") (map entry_text (entries_in i b))) w → Appended w (separator (ascii ",") i) x
+      → Appended x (entry_text (entry (get_or b (232 + i) 0) (slot_item b i))) y → Appended v (joined (ascii ",") (map entry_text (entries_in (i + 1) b))) y
   entries_turn b i g p q r =
-      put_element h entry_text (ascii ",") (entries_in i b) (entries_in (i + 1) b) (entry (get_or b (232 + i) 0) (slot_item b i))
+      appended_element entry_text (ascii ",") (entries_in i b) (entries_in (i + 1) b) (entry (get_or b (232 + i) 0) (slot_item b i))
       (sym (length_entries (part b 232 16) (contents i b) ∙ length_singles i (part b 16 24) (part b 40 192))) (entries_more i b g) p q r
 
   -- a key, `=` and a value
-  pub entry_put : (s : List ℕ) (from i : ℕ) {k : ℕ} {v : SifVal} → k ≡ get_or s (from + (232 + i)) 0 → i < 16 → Put out at (decimal k) out₁ r₁ → Put out₁ r₁ (ascii "=") out₂ r₂
-      → v ≡ shown (slot_item (part s from 256) i) → Put out₂ r₂ (single_text (single_seen v)) out₃ r₃
-      → Put out at (entry_text (entry (get_or (part s from 256) (232 + i) 0) (slot_item (part s from 256) i))) out₃ r₃
-  entry_put s from i e g p q f r =
-      put_as (ap₂ (λ (j : ℕ) (t : List ℕ). decimal j ++ (ascii "=" ++ t)) (get_d_part s from 256 (232 + i) 0 (omega arith) ∙ sym e) (seen_text (slot_item (part s from 256) i) f)) (put_three h p q r)
+  pub entry_put : (b : List ℕ) (from i : ℕ) {s : SifVal} → i < 16 → Appended v (decimal (get_or b (from + (232 + i)) 0)) w → Appended w (ascii "=") x
+      → s ≡ shown (slot_item (part b from 256) i) → Appended x (single_text (single_seen s)) y
+      → Appended v (entry_text (entry (get_or (part b from 256) (232 + i) 0) (slot_item (part b from 256) i))) y
+  entry_put b from i g p q f r =
+      appended_as (ap₂ (λ (j : ℕ) (t : List ℕ). decimal j ++ (ascii "=" ++ t)) (get_d_part b from 256 (232 + i) 0 (omega arith)) (seen_text (slot_item (part b from 256) i) f)) (appended_three p q r)
 
--- what the slot b shows, v, by its variant
-module _ {out : List ℕ} {at : ℕ} (b : List ℕ) {v : SifVal} (e : v ≡ seen (decode_slot b)) where
-  pub value_none : at ≤ length out → v ≡ Empty → Put out at (slot_text (decode_slot b)) out at
-  value_none h f = put_as (sym (text_none (decode_slot b) (sym f ∙ e))) (put_none out at h)
+-- what the slot b shows, s, by its variant
+module _ (b : List ℕ) {s : SifVal} (e : s ≡ seen (decode_slot b)) where
+  pub value_one : {v w : Writer} {t : SifVal} → s ≡ t → 0 < kind_in t → kind_in t ≤ 4 → Appended v (single_text (single_seen s)) w → Appended v (slot_text (decode_slot b)) w
+  value_one f h g p = let k = ap kind_in f in appended_as (sym (text_one (decode_slot b) s e (omega arith) (omega arith))) p
 
-  module _ {out' : List ℕ} {r : ℕ} where
-    pub value_one : {w : SifVal} → v ≡ w → 0 < kind_in w → kind_in w ≤ 4 → Put out at (single_text (single_seen v)) out' r → Put out at (slot_text (decode_slot b)) out' r
-    value_one f h g p = let k = ap kind_in f in put_as (sym (text_one (decode_slot b) v e (omega arith) (omega arith))) p
+  pub value_arr : {v w : Writer} {n : ℕ} → s ≡ Arr n → Appended v (value_text (model.Arr (contents n b))) w → Appended v (slot_text (decode_slot b)) w
+  value_arr f p = appended_as (ap slot_text (arr_shown b (sym f ∙ e)).1) p
 
-    pub value_arr : {n : ℕ} → v ≡ Arr n → Put out at (value_text (model.Arr (contents n b))) out' r → Put out at (slot_text (decode_slot b)) out' r
-    value_arr f p = put_as (ap slot_text (arr_shown b (sym f ∙ e)).1) p
-
-    pub value_tab : {n : ℕ} → v ≡ Tab n → Put out at (value_text (model.Tab (entries_in n b))) out' r → Put out at (slot_text (decode_slot b)) out' r
-    value_tab f p = put_as (ap slot_text (tab_shown b (sym f ∙ e)).1) p
+  pub value_tab : {v w : Writer} {n : ℕ} → s ≡ Tab n → Appended v (value_text (model.Tab (entries_in n b))) w → Appended v (slot_text (decode_slot b)) w
+  value_tab f p = appended_as (ap slot_text (tab_shown b (sym f ∙ e)).1) p

@@ -3,14 +3,20 @@ use Rattle.ast.proofs.Rooms.{size_in, at_place, to_end}
 use Rattle.ast.proofs.Scan.{nodes_end}
 use Rattle.ast.proofs.Faults.{fault_field, fault_number, fault_later}
 use Rattle.ast.specs.inner.Room.{Room}
+use Rattle.ast.specs.File.{nodes_from}
 use Rattle.ast.specs.inner.Answer.{fault_or}
 use lib.ListN.{length, get_or, take, drop}
 use native.Mathlib.Omega.{arith}
 use borrow.Author.Tests.{not-true, not-false}
-use Prim.Native.Nat.{ℕ, ◌≤◌, ◌<◌, ◌-◌}
+use Prim.Native.Nat.{ℕ, ◌+◌, ◌≤◌, ◌<◌, ◌-◌}
 use mathlib.Core.List.{List}
-use mathlib.Core.Path.{refl, sym, ap, ◌∙◌}
+use mathlib.Core.Path.{◌≡◌, refl, sym, ap, ◌∙◌}
 use Rattle.ast.proofs.bodies.first_fault.Goals as goal
+use Rattle.ast.proofs.bodies.first_fault.Goals.{After-size-at}
+
+abbrev Later : ℕ → List ℕ → List ℕ → ℕ → ℕ → Type 0
+Later texts es bs i at =
+    (at ≤ length bs) × Room (drop (i + 2) es) (drop at bs) × (fault_or texts (nodes_from es bs) 0 ≡ fault_or texts (nodes_from (drop (i + 2) es) (drop at bs)) 0)
 
 -- what the tests of a node's body ask
 asked : (es bs : List ℕ) (i at : ℕ) → at ≤ length bs → Room (drop i es) (drop at bs) → i < length es → (get_or es i 0 < 24) × (size_in es i ≤ length (take (length bs - at) (drop at bs)))
@@ -51,8 +57,9 @@ overflow_add-at c =
     let p = at_place c.args.entries.now c.args.bodies.now c.loop-i.i c.loop-i.at c.loop-i.invariant.1 (omega arith) (omega arith) in
     omega (arith, p.inside, c.size-at.ensures.0)
 
-pub loop-i-preserved : goal.loop-i-preserved
-loop-i-preserved c =
+-- no fault at this node: the later ones decide
+later : (c : After-size-at) → Later c.args.texts c.args.entries.now c.args.bodies.now c.loop-i.i (c.loop-i.at + c.size-at.result)
+later c =
     let l = c.loop-i in
     let a = c.args in
     let p = at_place a.entries.now a.bodies.now l.i l.at l.invariant.1 (omega arith) (omega arith) in
@@ -60,6 +67,14 @@ loop-i-preserved c =
     let d = rw (to_end l.at) at c.finite.ensures in
     let k = fault_later a.texts 0 p.nodes (sym e ∙ not-false c.field_ok.result (ap not c.if-not-field_ok.false)) (sym d ∙ not-false c.finite.result (ap not c.if-not-finite.false)) in
     rw c.size-at.ensures.0 (p.inside, p.rest, l.invariant.2 ∙ k)
+
+pub loop-i-preserved : goal.loop-i-preserved
+loop-i-preserved c = later (goal.at.loop-i-preserved c).After-size-at
+
+pub returns-else-not-finite : goal.returns-else-not-finite
+returns-else-not-finite c =
+    let w = later (goal.at.returns-else-not-finite c).After-size-at in
+    sym (w.2 ∙ ap (λ ns. fault_or c.args.texts ns 0) (nodes_end c.args.entries.now (drop (c.loop-i.at + c.size-at.result) c.args.bodies.now) (c.loop-i.i + 2) (omega arith)))
 
 pub returns : goal.returns
 returns c =

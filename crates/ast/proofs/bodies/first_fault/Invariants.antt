@@ -3,7 +3,7 @@ use Rattle.ast.specs.inner.Room.{Room}
 use Rattle.ast.specs.inner.Answer.{fault_or}
 use Rattle.ast.specs.File.{nodes_from}
 use lib.ListN.{length, drop}
-use Prim.Native.Nat.{◌≤◌, ◌-◌}
+use Prim.Native.Nat.{◌≤◌}
 use mathlib.Core.Path.{◌≡◌}
 use Rattle.ast.proofs.bodies.first_fault.Given as goal
 
@@ -11,6 +11,3 @@ abbrev pub invariant-loop-i : goal.invariant-loop-i
 invariant-loop-i l =
     (l.at ≤ length l.bodies) × Room (drop l.i l.entries) (drop l.at l.bodies)
     × (fault_or l.texts (nodes_from l.entries l.bodies) 0 ≡ fault_or l.texts (nodes_from (drop l.i l.entries) (drop l.at l.bodies)) 0)
-
-abbrev pub decreases-loop-i : goal.decreases-loop-i
-decreases-loop-i l = length l.entries - l.i

@@ -1,7 +1,7 @@
 use mathlib.Core.Path.{◌≡◌, refl}
 use mathlib.Core.Bool.{true, ◌&&◌}
 use mathlib.Core.List.{List, [], ◌∷◌}
-use Prim.Native.Nat.{ℕ, suc, ◌+◌, ◌≤◌, ◌<◌}
+use Prim.Native.Nat.{ℕ, suc, ◌+◌, ◌*◌, ◌≤◌, ◌<◌}
 use native.Mathlib.Numerals.{add-one}
 use native.Mathlib.Omega.{arith}
 use lib.ListN.{length, get_or, drop, length-drop}
@@ -27,22 +27,16 @@ short (k ∷ (c ∷ l)) u w h = absurd (omega arith)
 scan_end : (l : List ℕ) (i u w : ℕ) → length l ≤ i + 1 → Rule.scan u w (drop i l) ≡ true
 scan_end l i u w h = short (drop i l) u w (omega (arith, length-drop i l))
 
-pub loop-i-init : goal.loop-i-init
-loop-i-init c = (omega arith, omega arith, refl)
-
-pub waits-left-requires : goal.waits-left-requires
-waits-left-requires c = (omega arith, omega arith)
-
 pub loop-i-preserved : goal.loop-i-preserved
 loop-i-preserved c =
-    let l = c.loop-i in (
+    let l = c.loop-i in
+    let two : 2 * l.i + 2 ≡ 2 * (l.i + 1) = omega arith in (
       omega arith,
-      omega arith,
-      rw (c.under-above.ensures, c.waits-left.ensures.0, c.allowed-ok.ensures, c.wide-count.ensures.0, c.wide-kind.ensures.0)
-          (turn l.ok _ _ l.invariant.2 (scan_next c.args.entries.now l.i l.above l.left (omega arith))),
+      rw (← two, c.under-above.ensures, c.waits-left.ensures.0, c.allowed-ok.ensures, c.wide-count.ensures.0, c.wide-kind.ensures.0)
+          (turn l.ok _ _ l.invariant.1 (scan_next c.args.entries.now (2 * l.i) l.above l.left (omega arith))),
     )
 
 pub returns : goal.returns
 returns c =
     let l = c.loop-i in
-    done l.ok l.invariant.2 (scan_end c.args.entries.now l.i l.above l.left (omega arith))
+    done l.ok l.invariant.1 (scan_end c.args.entries.now (2 * l.i) l.above l.left (omega arith))

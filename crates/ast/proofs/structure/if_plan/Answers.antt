@@ -1,4 +1,4 @@
 use Rattle.ast.proofs.structure.if_plan.Goals as goal
 
 pub returns : goal.returns
-returns c = rw c.minus-rest.ensures
+returns c = rw c.saturating_sub-rest.ensures

@@ -26,7 +26,7 @@ pub returns-in-4 : goal.returns-in-4
 returns-in-4 c = rw (c.then_block.ensures, c.in-4.is)
 
 pub returns-in-5 : goal.returns-in-5
-returns-in-5 c = rw (c.then_block-in-5.ensures, c.minus.ensures, c.in-5.is)
+returns-in-5 c = rw (c.then_block-in-5.ensures, c.saturating_sub.ensures, c.in-5.is)
 
 pub returns-in-6 : goal.returns-in-6
 returns-in-6 c = rw (c.only_first-in-6.ensures, c.in-6.is)
@@ -38,7 +38,7 @@ pub returns-in-8 : goal.returns-in-8
 returns-in-8 c = rw (c.only_first-in-8.ensures, c.in-8.is)
 
 pub returns-in-9 : goal.returns-in-9
-returns-in-9 c = rw (c.then_block-in-9.ensures, c.minus-in-9.ensures, c.in-9.is)
+returns-in-9 c = rw (c.then_block-in-9.ensures, c.saturating_sub-in-9.ensures, c.in-9.is)
 
 pub returns-in-10 : goal.returns-in-10
 returns-in-10 c = rw (c.only_first-in-10.ensures, c.in-10.is)

@@ -5,32 +5,10 @@ use native.Mathlib.Nat.{sub-zero}
 use native.Mathlib.Omega.{arith}
 use Rattle.ast.proofs.texts.texts_ok.Goals as goal
 
-pub overflow_cast-n : goal.overflow_cast-n
-overflow_cast-n c = omega (arith, c.type_inv.lengths 0)
-
-pub slice_bounds-is_fortmp-end : goal.slice_bounds-is_fortmp-end
-slice_bounds-is_fortmp-end c = omega (arith, sum_first c.args.lengths.now (omega arith))
-
-pub slice_bounds-none_fortmp-count-2 : goal.slice_bounds-none_fortmp-count-2
-slice_bounds-none_fortmp-count-2 c =
-    omega (arith, sum_first c.args.lengths.now (omega arith))
-
-pub slice_bounds-none_fortmp-start-2 : goal.slice_bounds-none_fortmp-start-2
-slice_bounds-none_fortmp-start-2 c =
-    omega (arith, sum_first c.args.lengths.now (omega arith))
-
 pub none_fortmp-later-requires : goal.none_fortmp-later-requires
 none_fortmp-later-requires c =
     let a = c.args in
     rw (to_end 1 a.lengths.now, to_end _ a.texts.now) (simp length-drop (omega arith, omega (arith, sum_first a.lengths.now (omega arith))))
-
-pub slice_bounds-in_order-count-2 : goal.slice_bounds-in_order-count-2
-slice_bounds-in_order-count-2 c =
-    omega (arith, sum_first c.args.lengths.now (omega arith))
-
-pub slice_bounds-in_order-start-2 : goal.slice_bounds-in_order-start-2
-slice_bounds-in_order-start-2 c =
-    omega (arith, sum_first c.args.lengths.now (omega arith))
 
 pub in_order-order-requires : goal.in_order-order-requires
 in_order-order-requires c =

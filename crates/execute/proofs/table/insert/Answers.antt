@@ -12,7 +12,6 @@ use Rattle.sifv.specs.laws.Inserts.{key_in, tab_length, new_size}
 use Rattle.execute.specs.inner.View.{Neat, names_of, regs_of}
 use Rattle.execute.specs.laws.Acts.{name_formed, name_value, reg_formed, reg_value}
 use Rattle.execute.specs.laws.Tabled.{name_small, tabled_set, tabled_full, tabled_new}
-use Rattle.execute.specs.declared.Did.TheVariants as did
 use Rattle.execute.proofs.table.insert.Goals as goal
 
 module _ (b : List ℕ) (n : Neat b) {at : ℕ} where
@@ -78,7 +77,7 @@ returns-then-n-ge-TABLE_ITEMS c =
     let e = c.slot-at.ensures in
     let o = table_kind _ p.0 _ p.1 e p.5 in
     tabled_full b p.0 c.args.tabname p.1 e c.args.key (regs_of b c.args.src) o c.len_at-n.ensures p.6 p.7
-    p.4 c.has_key.ensures c.if-has_key.false c.if-n-ge-TABLE_ITEMS.true (ap did.Err c.table_full.ensures) refl
+    p.4 c.has_key.ensures c.if-has_key.false c.if-n-ge-TABLE_ITEMS.true refl refl
 
 pub insert_new-requires : goal.insert_new-requires
 insert_new-requires c =

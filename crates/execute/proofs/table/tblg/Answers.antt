@@ -7,7 +7,6 @@ use Rattle.lent.specs.Bytes.{part}
 use Rattle.sifv.specs.laws.Inserts.{key_in}
 use Rattle.execute.specs.laws.Acts.{name_formed, reg_formed}
 use Rattle.execute.specs.laws.Tabled.{name_small, looked_unset, looked_off, looked_absent, looked_found}
-use Rattle.execute.specs.declared.Did.TheVariants as did
 use Rattle.execute.proofs.table.tblg.Goals as goal
 
 pub kind_at-k-requires : goal.kind_at-k-requires
@@ -16,7 +15,7 @@ kind_at-k-requires c =
 
 pub returns-then-k-eq0 : goal.returns-then-k-eq0
 returns-then-k-eq0 c =
-    looked_unset c.args.state.now c.requires.0 c.args.tabname c.requires.1 c.slot-at.ensures c.args.key c.args.dest c.kind_at-k.ensures c.if-k-eq0.true (ap did.Err c.invalid_name.ensures) refl
+    looked_unset c.args.state.now c.requires.0 c.args.tabname c.requires.1 c.slot-at.ensures c.args.key c.args.dest c.kind_at-k.ensures c.if-k-eq0.true refl refl
 
 pub returns-then-k-ne6 : goal.returns-then-k-ne6
 returns-then-k-ne6 c =
@@ -36,7 +35,7 @@ has_key-requires c =
 
 pub returns-then-not-has_key : goal.returns-then-not-has_key
 returns-then-not-has_key c =
-    looked_absent c.args.state.now c.requires.0 c.args.tabname c.requires.1 c.slot-at.ensures c.args.key c.args.dest (sym c.kind_at-k.ensures ∙ c.if-k-ne6.false) c.len_at-n.ensures c.requires.3 c.has_key.ensures (not-true c.has_key.result (ap not c.if-not-has_key.true)) (ap did.Err c.key_absent.ensures) refl
+    looked_absent c.args.state.now c.requires.0 c.args.tabname c.requires.1 c.slot-at.ensures c.args.key c.args.dest (sym c.kind_at-k.ensures ∙ c.if-k-ne6.false) c.len_at-n.ensures c.requires.3 c.has_key.ensures (not-true c.has_key.result (ap not c.if-not-has_key.true)) refl refl
 
 pub item-v-requires : goal.item-v-requires
 item-v-requires c =

@@ -7,7 +7,6 @@ use Rattle.sifv.specs.inner.Seen.{seen, kind_in}
 use Rattle.execute.specs.inner.View.{regs_of}
 use Rattle.execute.specs.laws.Acts.{name_formed, name_value, reg_formed, reg_value}
 use Rattle.execute.specs.laws.Tabled.{tabled_unset, tabled_off, tabled_none, tabled_multi}
-use Rattle.execute.specs.declared.Did.TheVariants as did
 use Rattle.execute.proofs.table.tbli.Goals as goal
 
 pub kind_at-k-requires : goal.kind_at-k-requires
@@ -16,7 +15,7 @@ kind_at-k-requires c =
 
 pub returns-then-k-eq0 : goal.returns-then-k-eq0
 returns-then-k-eq0 c =
-    tabled_unset c.args.state.now c.requires.0 c.args.tabname c.requires.1 c.slot.ensures c.args.key (regs_of c.args.state.now c.args.src) c.kind_at-k.ensures c.if-k-eq0.true (ap did.Err c.invalid_name.ensures) refl
+    tabled_unset c.args.state.now c.requires.0 c.args.tabname c.requires.1 c.slot.ensures c.args.key (regs_of c.args.state.now c.args.src) c.kind_at-k.ensures c.if-k-eq0.true refl refl
 
 pub returns-then-k-ne6 : goal.returns-then-k-ne6
 returns-then-k-ne6 c =
@@ -28,11 +27,11 @@ kind_at-j-requires c =
 
 pub returns-then-j-eq0 : goal.returns-then-j-eq0
 returns-then-j-eq0 c =
-    tabled_none c.args.state.now c.requires.0 c.args.tabname c.requires.1 c.slot.ensures c.args.key (regs_of c.args.state.now c.args.src) (sym c.kind_at-k.ensures ∙ c.if-k-ne6.false) refl (c.kind_at-j.ensures ∙ ap (λ (o : Option Value). kind_in (seen o)) (reg_value _ c.requires.0 _ c.requires.3 c.reg.ensures)) c.if-j-eq0.true (ap did.Err c.empty_register.ensures) refl
+    tabled_none c.args.state.now c.requires.0 c.args.tabname c.requires.1 c.slot.ensures c.args.key (regs_of c.args.state.now c.args.src) (sym c.kind_at-k.ensures ∙ c.if-k-ne6.false) refl (c.kind_at-j.ensures ∙ ap (λ (o : Option Value). kind_in (seen o)) (reg_value _ c.requires.0 _ c.requires.3 c.reg.ensures)) c.if-j-eq0.true refl refl
 
 pub returns-then-j-ge5 : goal.returns-then-j-ge5
 returns-then-j-ge5 c =
-    tabled_multi c.args.state.now c.requires.0 c.args.tabname c.requires.1 c.slot.ensures c.args.key (regs_of c.args.state.now c.args.src) (sym c.kind_at-k.ensures ∙ c.if-k-ne6.false) refl (c.kind_at-j.ensures ∙ ap (λ (o : Option Value). kind_in (seen o)) (reg_value _ c.requires.0 _ c.requires.3 c.reg.ensures)) c.if-j-ge5.true (ap did.Err c.nested.ensures) refl
+    tabled_multi c.args.state.now c.requires.0 c.args.tabname c.requires.1 c.slot.ensures c.args.key (regs_of c.args.state.now c.args.src) (sym c.kind_at-k.ensures ∙ c.if-k-ne6.false) refl (c.kind_at-j.ensures ∙ ap (λ (o : Option Value). kind_in (seen o)) (reg_value _ c.requires.0 _ c.requires.3 c.reg.ensures)) c.if-j-ge5.true refl refl
 
 pub insert-requires : goal.insert-requires
 insert-requires c =

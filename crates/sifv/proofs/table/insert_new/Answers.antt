@@ -3,12 +3,12 @@ use mathlib.Core.Path.{sym, ap, ◌∙◌, subst}
 use Prim.Native.Nat.{ℕ, ◌+◌, ◌≤◌, ◌<◌}
 use mathlib.Core.List.{List}
 use native.Mathlib.Omega.{arith}
-use lib.ListN.{set, length-set}
+use lib.ListN.{set}
 use Rattle.lent.specs.Bytes.{part, splice}
 use Rattle.sifv.specs.Slot.{decode_slot}
 use Rattle.sifv.specs.inner.Seen.{seen, single_seen, kind_in, set_item}
 use Rattle.sifv.specs.laws.Gaps.{open_length}
-use Rattle.sifv.specs.laws.Inserts.{low_same, new_place, new_from, new_length, new_law}
+use Rattle.sifv.specs.laws.Inserts.{low_same, new_place, new_from, new_law}
 use Rattle.sifv.specs.inner.Forms.{Formed}
 use Rattle.sifv.proofs.table.insert_new.Goals as goal
 
@@ -34,14 +34,6 @@ store_item-requires c =
     let g = new_place c.args.s.now c.args.at c.args.n c.args.i c.args.key c.requires.at_in_bounds.0 c.requires.at_in_bounds.3 c.requires.at_in_bounds.4 c.requires.at_in_bounds.5 c.requires.at_in_bounds.6 c.requires.i_value.0 in
     let q = new_from c.args.s.now c.args.at c.args.n c.args.i c.args.key c.requires.at_in_bounds.0 c.requires.at_in_bounds.3 c.requires.at_in_bounds.4 c.requires.at_in_bounds.5 c.requires.at_in_bounds.6 c.requires.i_value.0 c.args.from c.requires.at_in_bounds.2 c.requires.i_value.5 c.open_entry.ensures (ap (set c.open_entry.new.s (c.args.at + (232 + c.args.i))) (low_same c.args.key c.low.ensures (omega (arith, c.requires.i_value.2)))) in
     (omega (arith, q.1, c.requires.at_in_bounds.0), omega (arith, q.1, c.requires.at_in_bounds.1), c.requires.at_in_bounds.2, omega (arith, g, c.requires.at_in_bounds.6), subst Formed (sym q.0) c.requires.i_value.3, subst (λ (r : List ℕ). 0 < kind_in (seen (decode_slot r))) (sym q.0) c.requires.i_value.4, subst (λ (r : List ℕ). kind_in (seen (decode_slot r)) ≤ 4) (sym q.0) c.requires.i_value.5)
-
-pub bounds-s-at-2 : goal.bounds-s-at-2
-bounds-s-at-2 c =
-    omega (arith, new_length c.args.s.now c.args.at c.args.n c.args.i c.args.key c.requires.at_in_bounds.0 c.requires.at_in_bounds.3 c.requires.at_in_bounds.4 c.requires.at_in_bounds.5 c.requires.at_in_bounds.6 c.requires.i_value.0 (single_seen (seen (decode_slot (part (set c.open_entry.new.s (c.args.at + (232 + c.args.i)) c.low.result) c.args.from 256)))) c.open_entry.ensures (ap (set c.open_entry.new.s (c.args.at + (232 + c.args.i))) (low_same c.args.key c.low.ensures (omega (arith, c.requires.i_value.2)))) c.store_item.ensures)
-
-pub shape_of-s : goal.shape_of-s
-shape_of-s c =
-    length-set c.store_item.new.s (c.args.at + 1) c.low-2.result ∙ new_length c.args.s.now c.args.at c.args.n c.args.i c.args.key c.requires.at_in_bounds.0 c.requires.at_in_bounds.3 c.requires.at_in_bounds.4 c.requires.at_in_bounds.5 c.requires.at_in_bounds.6 c.requires.i_value.0 (single_seen (seen (decode_slot (part (set c.open_entry.new.s (c.args.at + (232 + c.args.i)) c.low.result) c.args.from 256)))) c.open_entry.ensures (ap (set c.open_entry.new.s (c.args.at + (232 + c.args.i))) (low_same c.args.key c.low.ensures (omega (arith, c.requires.i_value.2)))) c.store_item.ensures
 
 pub returns : goal.returns
 returns c =

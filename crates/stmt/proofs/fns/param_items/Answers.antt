@@ -7,7 +7,7 @@ use Rattle.stmt.proofs.fns.param_items.Goals as goal
 
 pub loop-i-init : goal.loop-i-init
 loop-i-init c =
-    (omega arith, refl, items_start c.args.out.now c.args.k c.args.names.now)
+    (refl, items_start c.args.out.now c.args.k c.args.names.now)
 
 pub loop-i-preserved : goal.loop-i-preserved
 loop-i-preserved c =
@@ -15,15 +15,14 @@ loop-i-preserved c =
     let a = c.args in
     let x = c.wide in
     let e = c.put_item.ensures.0 in (
-      omega arith,
-      item_length_lem l.out (a.k + l.i) (Str x.result) (omega arith) e ∙ l.invariant.1,
-      items_turn l.out a.k l.i a.names.now (omega arith) (omega arith) x.ensures.0 e ∙ l.invariant.2,
+      item_length_lem l.out (a.k + l.i) (Str x.result) (omega arith) e ∙ l.invariant.0,
+      items_turn l.out a.k l.i a.names.now (omega arith) (omega arith) x.ensures.0 e ∙ l.invariant.1,
     )
 
 pub shape_of-out : goal.shape_of-out
-shape_of-out c = c.loop-i.invariant.1
+shape_of-out c = c.loop-i.invariant.0
 
 pub returns : goal.returns
 returns c =
     let l = c.loop-i in
-    sym (items_end l.out c.args.k l.i c.args.names.now c.loop-i-test.false) ∙ l.invariant.2
+    sym (items_end l.out c.args.k l.i c.args.names.now c.loop-i-test.false) ∙ l.invariant.1

@@ -1,4 +1,4 @@
-use Prim.Native.Nat.{◌+◌, ◌*◌, ◌-◌, ◌≤◌}
+use Prim.Native.Nat.{◌+◌, ◌*◌}
 use mathlib.Core.Path.{◌≡◌}
 use lib.ListN.{length, drop}
 use Rattle.lent.specs.Bytes.{splice}
@@ -6,7 +6,4 @@ use Rattle.stmt.specs.inner.Parts.{param_items}
 use Rattle.stmt.proofs.fns.param_items.Given as goal
 
 abbrev pub invariant-loop-i : goal.invariant-loop-i
-invariant-loop-i l = (l.i ≤ length l.names) × (length l.out ≡ length l.initial.out) × (splice l.out (16384 + 16 * (l.k + l.i)) (param_items (drop l.i l.names)) ≡ splice l.initial.out (16384 + 16 * l.k) (param_items l.names))
-
-abbrev pub decreases-loop-i : goal.decreases-loop-i
-decreases-loop-i l = length l.names - l.i
+invariant-loop-i l = (length l.out ≡ length l.initial.out) × (splice l.out (16384 + 16 * (l.k + l.i)) (param_items (drop l.i l.names)) ≡ splice l.initial.out (16384 + 16 * l.k) (param_items l.names))

@@ -1,22 +1,9 @@
-use native.Mathlib.Omega.{arith}
-use mathlib.Core.Path.{sym, ◌∙◌}
-use Rattle.emit.specs.laws.Laws.{roomy}
-use Rattle.stmt.specs.laws.Fns.{fn_refused, fn_full, fn_put}
+use Rattle.std.proofs.Common.{refl, arith}
+use Rattle.stmt.specs.laws.Fns.{fn_items}
 use Rattle.stmt.proofs.fns.push_fn.Goals as goal
 
-pub returns-then-low-ne0 : goal.returns-then-low-ne0
-returns-then-low-ne0 c = fn_refused c.if-low-ne0.true
-
-pub returns-then-is_full : goal.returns-then-is_full
-returns-then-is_full c = fn_full c.if-low-ne0.false (sym c.is_full.ensures ∙ c.if-is_full.true) c.refused.ensures
-
-pub keep_fn-requires : goal.keep_fn-requires
-keep_fn-requires c =
-    let h = roomy c.args.keep c.args.low _ (sym c.is_full.ensures ∙ c.if-is_full.false) in record {
-      recs_bound = λ e. let g = h.1 e in (omega (arith, g.0), g.1);
-      names_len_bound = (c.requires.1, c.requires.0.room);
-    }
+pub keep_params-requires : goal.keep_params-requires
+keep_params-requires c = λ e. (c.push_items-q.ensures.room e, omega (arith, c.requires.0.room, c.push_items-q.auto))
 
 pub returns : goal.returns
-returns c =
-    fn_put c.if-low-ne0.false (sym c.is_full.ensures ∙ c.if-is_full.false) c.count.ensures c.keep_fn.ensures
+returns c = fn_items refl c.push_items-q.ensures c.keep_params.ensures

@@ -1,7 +1,0 @@
-use Rattle.ast.proofs.structure.begin.Goals as goal
-
-pub returns-then-fits : goal.returns-then-fits
-returns-then-fits c = rw c.if-fits.true
-
-pub returns : goal.returns
-returns c = rw c.if-fits.false

@@ -1,4 +1,0 @@
-use Rattle.call_list.proofs.told.Goals as goal
-
-pub returns : goal.returns
-returns c = rw (c.get_u64.ensures, c.get_u64-2.ensures, c.get_u64-3.ensures)

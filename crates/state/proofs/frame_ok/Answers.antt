@@ -1,8 +1,0 @@
--- `state::frame_ok` meets its contract.
-use Rattle.state.proofs.frame_ok.Goals as goal
-
-pub returns-then-inside : goal.returns-then-inside
-returns-then-inside c = rw c.if-inside.true
-
-pub returns : goal.returns
-returns c = rw c.if-inside.false
