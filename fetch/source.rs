@@ -255,11 +255,11 @@ impl Sources {
     }
 }
 
-/// Behind an attribute that adds no code, or none that multiplies: the tactics of a file or a function, a cycle of calls, copies.
+/// Behind an attribute that adds no code, or none that multiplies: the tactics of a file or a function, a cycle of calls, a word on putting a function into its callers, derives.
 fn attribute(words: &[String], at: usize) -> Option<usize> {
     let open = at + 1 + usize::from(words.get(at + 1)? == "!");
     let plain = match words.get(open + 1)?.as_str() {
-        "tactic" | "cycle" => true,
+        "tactic" | "cycle" | "inline" => true,
         "derive" => {
             let mut named = words.get(open + 3..next(words, open + 3, &[")"]))?.iter().filter(|word| *word != ",");
             named.all(|name| DERIVED.contains(&name.as_str()))

@@ -423,7 +423,9 @@ fn put_contents(program: &[u8], state: &mut [u8], at: usize, val: usize)
     sifv::set(state, at, SifVal::Tab(0));
 }
 
-// The literal in record val, over the slot at byte at. It looks at the kind, so that a single value is written without a call.
+// The literal in record val, over the slot at byte at. It is put into its callers and looks at the kind, so that a single
+// value is written without a call.
+#[inline(always)]
 fn put_literal(program: &[u8], state: &mut [u8], at: usize, val: usize)
     requires { (32768 ≤ length program.now) × (at + 256 ≤ length state.old) × Formed (part state.old at 256) × (val < 1024) × ShowsLiteral (pool_of program.now) (record_at program.now val) (literal_in program.now val) }
     ensures { state.new ≡ splice state.old at (encode_slot (some (literal_in program.now val))) }
