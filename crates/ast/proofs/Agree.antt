@@ -21,6 +21,10 @@ use Rattle.ast.proofs.Rooms.{First, first, size_at}
 use Rattle.lent.specs.laws.Truths.{and_left, and_right}
 use Rattle.lent.specs.Lists.{all}
 
+-- equal rests have equal nodes
+left_eq : {ns ms : List Node} → left ns ≡ left ms → ns ≡ ms
+left_eq e = cc
+
 pub no_first : (b : List ℕ) → length b ≡ 0 → 0 ≡ get_or b 0 0
 no_first [] h = refl
 no_first (x ∷ b) h = absurd (omega arith)

@@ -1,6 +1,6 @@
 -- Comparing texts.
-use mathlib.Core.Path.{◌≡◌, sym, ap, ◌∙◌}
-use mathlib.Core.Bool.{true, false, ◌&&◌, ◌||◌}
+use mathlib.Core.Path.{◌≡◌, refl, sym, ap, ◌∙◌}
+use mathlib.Core.Bool.{Bool, true, false, ◌&&◌, ◌||◌}
 use mathlib.Core.List.{List, [], ◌∷◌}
 use Prim.Native.Nat.{ℕ, zero, suc, ◌+◌, ◌≤◌, ◌<◌}
 use native.Mathlib.Numerals.{add-one}
@@ -53,3 +53,23 @@ spelled (a ∷ b ∷ c ∷ d ∷ []) h p q r s t u = absurd (omega arith)
 spelled (a ∷ b ∷ c ∷ d ∷ e ∷ []) h p q r s t u = absurd (omega arith)
 spelled (a ∷ b ∷ c ∷ d ∷ e ∷ f ∷ []) h p q r s t u = rw (p, q, r, s, t, u)
 spelled (a ∷ b ∷ c ∷ d ∷ e ∷ f ∷ (g ∷ l)) h p q r s t u = absurd (omega arith)
+
+pub six : (s : List ℕ) → length s ≡ 6
+    → (((((eqb (get_or s 0 0) 102 && eqb (get_or s 1 0) 111) && eqb (get_or s 2 0) 114) && eqb (get_or s 3 0) 116) && eqb (get_or s 4 0) 109) && eqb (get_or s 5 0) 112) ≡ same_bytes s fortmp
+six [] h = absurd (omega arith)
+six (a ∷ []) h = absurd (omega arith)
+six (a ∷ b ∷ []) h = absurd (omega arith)
+six (a ∷ b ∷ c ∷ []) h = absurd (omega arith)
+six (a ∷ b ∷ c ∷ d ∷ []) h = absurd (omega arith)
+six (a ∷ b ∷ c ∷ d ∷ e ∷ []) h = absurd (omega arith)
+six (a ∷ b ∷ c ∷ d ∷ e ∷ f ∷ (g ∷ s)) h = absurd (omega arith)
+six (a ∷ b ∷ c ∷ d ∷ e ∷ f ∷ []) h = nest (eqb a 102) (eqb b 111) (eqb c 114) (eqb d 116) (eqb e 109) (eqb f 112)
+  where
+    nest : (p q r s t u : Bool) → (((((p && q) && r) && s) && t) && u) ≡ (p && (q && (r && (s && (t && (u && true))))))
+    nest false q r s t u = refl
+    nest true false r s t u = refl
+    nest true true false s t u = refl
+    nest true true true false t u = refl
+    nest true true true true false u = refl
+    nest true true true true true false = refl
+    nest true true true true true true = refl

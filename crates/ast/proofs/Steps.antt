@@ -68,6 +68,18 @@ module _ {w : Remaining} {ns : List Node} (go : List Node → Remaining) (keys n
   pub items_end : n ≤ i → w ≡ left ns
   items_end h = let z : n - i ≡ 0 = omega arith in e ∙ ap (λ (j : ℕ). keyed_times go keys j ns) z
 
+-- the test of a key, made before what goes on from there
+kept_then : (t : Bool) (y : Remaining) (g : List Node → Remaining) → then y (λ ms. kept_if t (g ms)) ≡ then (then y (λ ms. kept_if t (left ms))) g
+kept_then true wrong g = refl
+kept_then false wrong g = refl
+kept_then true (left ns) g = refl
+kept_then false (left ns) g = refl
+
+same_keys : (go : List Node → Remaining) (keys k : ℕ) (y : Remaining) (n : ℕ) → ((ns : List Node) → y ≡ left ns → k ≡ key_of ns)
+    → then y (λ ns. keyed_times go keys (suc n) ns) ≡ then (then (then y go) (λ ms. kept_if (not (bit_in keys k)) (left ms))) (λ ns. keyed_times go (bit_of keys k) n ns)
+same_keys go keys k wrong n f = refl
+same_keys go keys k (left ns) n f = rw (← f ns refl) (kept_then (not (bit_in keys k)) (go ns) (λ ms. keyed_times go (bit_of keys k) n ms))
+
 -- ---- a node
 
 pub no_node : (d place l : ℕ) (f : Bool) {c b : List ℕ} → Fit c b → length c < 2 → pass_over d place l f (nodes_from c b) ≡ wrong

@@ -1,14 +1,14 @@
 -- Right sides: a section for each function.
 use Prim.Native.Nat.{ℕ, suc, ◌+◌, ◌^◌, ◌≤◌, ◌<◌}
 use mathlib.Core.Path.{◌≡◌, refl, ap, sym, ◌∙◌}
-use mathlib.Core.Bool.{Bool, true}
+use mathlib.Core.Bool.{Bool, true, false}
 use mathlib.Core.List.{List, [], ◌∷◌, ◌++◌, append_assoc}
 use native.Mathlib.Omega.{arith}
 use mir.Facts.{and_yes}
-use lib.Dec.{ltb}
+use lib.Dec.{ltb, eqb}
 use lib.ListN.{length, length-drop, drop, get_or}
 use lib.Seq.{drop-drop, get_or-drop}
-use Rattle.sifv.specs.Value.{One, Tab}
+use Rattle.sifv.specs.Value.{One, Bl, Tab}
 use Rattle.opc.specs.Op.{Op, Stc, Stn, Str, Ldav, Tbli, instr}
 use Rattle.opc.specs.Record.{Fields, fields, field_bytes}
 use Rattle.ast.specs.Tree.{Lit, Expr, Expression, Table, Array, ArrayAccess, Items, no_items, more_items}
@@ -279,6 +279,24 @@ module _ {x : ℕ} {c b : List ℕ} {k : Bool} {n : ℕ} {s : Low} {buf : List �
       by kname g l f h = absurd (g refl)
       by ktrue g l f h = f
       by kfalse g l f h = f
+
+  -- of a truth value alone
+  pub bl_stores : 21 < get_or c 0 0
+      → ((t : Bool) → t ≡ eqb (get_or c 0 0) 22 → (w : Place) → k ≡ kept s.decls w.section → Made (push w n (Stc (One (Bl t)) x) ∷ []) 2 0 n s buf d buf') → Front (rights x) c b k n s buf d buf'
+  bl_stores l f = record { front = λ r h. only_exp (λ r. Makes (rights x) r k n s buf d buf') (omega (arith, l)) (λ e j. high j l f) (of_right h) }
+    where
+      high : {m : ℕ} {e : Expr} → EKind m e → 21 < m → ((t : Bool) → t ≡ eqb m 22 → (w : Place) → k ≡ kept s.decls w.section → Made (push w n (Stc (One (Bl t)) x) ∷ []) 2 0 n s buf d buf')
+          → Makes (rights x) (Expression e) k n s buf d buf'
+      high kmut l f = absurd (omega (arith, l))
+      high kcall l f = absurd (omega (arith, l))
+      high kasg l f = absurd (omega (arith, l))
+      high kbin l f = absurd (omega (arith, l))
+      high kun l f = absurd (omega (arith, l))
+      high kval l f = absurd (omega (arith, l))
+      high ktext l f = absurd (omega (arith, l))
+      high kname l f = absurd (omega (arith, l))
+      high ktrue l f = f true refl
+      high kfalse l f = f false refl
 
   pub expr_stores : (get_or c 0 0 ≡ 10 → ⊥) → (get_or c 0 0 ≡ 12 → ⊥) → (get_or c 0 0 ≡ 13 → ⊥) → get_or c 0 0 < 19
       → Front (stored_parts x) c b k n s buf d buf' → Front (rights x) c b k n s buf d buf'

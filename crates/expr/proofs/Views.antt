@@ -101,6 +101,12 @@ module _ (Q : Expr → Type 0) where
   pub only_name : {e : Expr} → ((x : ℕ) → Q (Name x)) → EKind 21 e → Q e
   only_name f (kname {x}) = f x
 
+  pub only_true : {e : Expr} → Q (Literal (Truth true)) → EKind 22 e → Q e
+  only_true f ktrue = f
+
+  pub only_false : {e : Expr} → Q (Literal (Truth false)) → EKind 23 e → Q e
+  only_false f kfalse = f
+
 module _ (Q : Rhs → Type 0) where
   pub only_tab : {r : Rhs} → ((is : Items) → Q (Table is)) → RKind 10 r → Q r
   only_tab f (ktab {is}) = f is

@@ -309,12 +309,11 @@ pub fn pool_ok(program: &[u8], n: usize) -> bool
     requires { (40960 ≤ length program.now) × (n ≤ 1024) }
     ensures { result ≡ pool_fits n 0 0 program.now }
 {
-    let mut next = 0;
+    let mut next = Some(0);
     for i in 0..n {
-        let Some(after) = pooled(program, i, next) else {
-            return false;
-        };
-        next = after;
+        if let Some(from) = next {
+            next = pooled(program, i, from);
+        }
     }
-    true
+    next.is_some()
 }

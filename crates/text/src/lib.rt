@@ -25,7 +25,7 @@ pub struct Writer<'a> {
 }
 
 impl<'a> Writer<'a> {
-    ghost use Rattle.std.specs.Prelude.{◌≡◌, [], ◌∷◌, ◌++◌, map};
+    ghost use Rattle.std.specs.Prelude.{◌≡◌, ◌≤◌, [], ◌∷◌, ◌++◌, length, map};
     ghost use Rattle.sifv.specs.inner.Seen.{single_seen};
     ghost use Rattle.text.specs.Text.{ascii, decimal, hex, single_text, joined, separator, line_of};
     ghost use Rattle.text.specs.inner.Appended.{Appended};
@@ -37,6 +37,16 @@ impl<'a> Writer<'a> {
         ensures start { result.at ≡ 0 }
     {
         Writer { out, at: 0 }
+    }
+
+    // At a place of the buffer, whose bytes before it stay.
+    pub fn starting_at(out: &'a mut [u8], at: usize) -> Writer<'a>
+        requires { at ≤ length out.old }
+        ensures same_buffer { result.out.ghost_name ≡ out.entry.ghost_name }
+        ensures bytes { result.out.now ≡ out.old }
+        ensures start { result.at ≡ at }
+    {
+        Writer { out, at }
     }
 
     // Where the next byte goes.
@@ -79,8 +89,8 @@ impl<'a> Writer<'a> {
     pub fn put_hex(&mut self, n: u64)
         ensures { Appended self.old (hex 16 n) self.new }
     {
-        for k in (0..16).rev() {
-            self.put(hex_digit(n / 16u64.pow(k) % 16));
+        for k in (0..16u32).rev() {
+            self.put(hex_digit((n >> (4 * k)) % 16));
         }
     }
 

@@ -151,7 +151,7 @@ assign-returns-then-kind-eq-KIND_NAME t c =
 pub assign-put_literal-requires : goal.assign-put_literal-requires
 assign-put_literal-requires t c =
     let r = exp_reads c.requires c.if-kind-eq-KIND_TABLE.false c.if-kind-eq-KIND_ARRAY.false c.if-kind-eq-KIND_ARRAY_ACCESS.false in
-    (c.requires.ready, num_asks r, text_asks r)
+    (c.requires.ready, λ e. num_asks r (omega (arith, e)), λ e. text_asks r (omega (arith, e)))
 
 pub assign-returns-then-kind-ge-KIND_NUM : goal.assign-returns-then-kind-ge-KIND_NUM
 assign-returns-then-kind-ge-KIND_NUM t c =

@@ -1,7 +1,8 @@
 -- Laws of digits, and of a writer that writes them.
-use Rattle.std.specs.Prelude.{◌≡◌, refl, Bool, true, false, List, [], ◌∷◌, ◌++◌, ℕ, zero, suc, ◌+◌, ◌-◌, ◌/◌, ◌%◌, ◌^◌, ◌≤◌, ◌<◌, ltb}
+use Rattle.std.specs.Prelude.{◌≡◌, refl, Bool, true, false, List, [], ◌∷◌, ◌++◌, ℕ, zero, suc, ◌+◌, ◌-◌, ◌*◌, ◌/◌, ◌%◌, ◌^◌, ◌≤◌, ◌<◌, ltb}
 use Rattle.std.proofs.Common.{ap, arith, zero-lt-suc, lt-ltb, le-ltb}
 use Rattle.std.proofs.Math.Nat.{pow-le-pow_right, pow-succ'}
+use Rattle.std.proofs.lemmas.Nat.{pow-add}
 use Rattle.text.specs.Text.{digits, decimal, hex_digit, hex}
 use Rattle.text.specs.declared.Writer.{Writer}
 use Rattle.text.specs.inner.Appended.{Appended}
@@ -36,3 +37,12 @@ hex_then k n p z e d p₁ p₂ = rw (hex_more k n p z e, ← d) (appended_then p
 -- a power of 16 within 64 bits
 pub power_fits : (k : ℕ) → k ≤ 15 → 16 ^ k < 2 ^ 64
 power_fits k h = omega (arith, pow-le-pow_right (zero-lt-suc 15) h)
+
+-- four bits are a digit
+pub four_bits : (k : ℕ) → 2 ^ (4 * k) ≡ 16 ^ k
+four_bits zero = refl
+four_bits (suc k) =
+    let e : 4 * suc k ≡ 4 * k + 4 = omega arith in
+    let p : 2 ^ (4 * k + 4) ≡ 2 ^ (4 * k) * 16 = pow-add 2 (4 * k) 4 in
+    let q : 2 ^ (4 * k) ≡ 16 ^ k = four_bits k in
+    rw e (omega (arith, p, q, pow-succ' 16 k))
